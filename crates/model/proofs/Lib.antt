@@ -1,0 +1,6 @@
+pub mod Lists
+pub mod Times
+pub mod Names
+pub mod Map
+pub mod Check
+pub mod Cases

@@ -1,0 +1,43 @@
+-- Bytes, big-endian numbers and half-bytes.
+use Prim.Native.Nat.{ℕ, zero, suc, _+_, _*_, _/_, _%_, _<_}
+use mathlib.Core.Bool.{cond}
+use mathlib.Core.List.{List, [], _∷_, _++_}
+use lib.ListN.{length, getD, take, drop, replicate}
+use lib.Dec.{eqb}
+
+abbrev pub byte : List ℕ → ℕ → ℕ
+byte s i = getD s i 0
+
+-- All numbers are big-endian.
+unfoldable pub be16 : List ℕ → ℕ → ℕ
+be16 s i = byte s i * 256 + byte s (i + 1)
+
+unfoldable pub be32 : List ℕ → ℕ → ℕ
+be32 s i = be16 s i * 65536 + be16 s (i + 2)
+
+-- a number as its two or four bytes
+abbrev pub u16 : ℕ → List ℕ
+u16 v = (v / 256) ∷ (v % 256) ∷ []
+
+abbrev pub u32 : ℕ → List ℕ
+u32 v = (v / 16777216) ∷ (v / 65536 % 256) ∷ (v / 256 % 256) ∷ (v % 256) ∷ []
+
+abbrev pub zeros : ℕ → List ℕ
+zeros n = replicate n 0
+
+-- the k elements from place q on
+abbrev pub part : ℕ → ℕ → List ℕ → List ℕ
+part q k l = take k (drop q l)
+
+-- half-byte h: the high half of byte h/2 where h is even, the low half where it is odd
+unfoldable pub half : List ℕ → ℕ → ℕ
+half s h = cond (eqb (h % 2) 0) (byte s (h / 2) / 16) (byte s (h / 2) % 16)
+
+-- each element is a byte
+unfoldable pub Bytes : List ℕ → Type 0
+Bytes l = (i : ℕ) → byte l i < 256
+
+-- the first number, unless it is 0; then the second: the first check that fires is the answer
+unfoldable pub firstOf : ℕ → ℕ → ℕ
+firstOf zero b = b
+firstOf (suc a) b = suc a

@@ -1,0 +1,387 @@
+-- The nine calls: their arguments, the refusals after 1 to 10, what each answers and what each leaves.
+use Prim.Native.Nat.{ℕ, zero, suc, _+_, _-_, _*_, _/_, _%_, _^_, _<_, min, max}
+use mathlib.Core.Path.{_≡_}
+use mathlib.Core.Bool.{Bool, true, false, _&&_, _||_, not, cond}
+use mathlib.Core.List.{List, [], _∷_, _++_, map}
+use lib.ListN.{length, getD, take, drop, replicate}
+use lib.Seq.{sets, paste}
+use lib.Dec.{eqb, leb, ltb}
+use Rattle.model.specs.Lists.{any, keep, first, placeOf, flat, firstOr0}
+use Rattle.model.specs.Bytes.{byte, u16, u32, zeros, part, Bytes, firstOf}
+use Rattle.model.specs.Facts.{factsOf, dirStart, dirLength, N, A, S, nextNumber, freeCount, isLocked, blockByte, noFacts}
+use Rattle.model.specs.Map.{mapEntry, freeBlocks, putChain, putFree}
+use Rattle.model.specs.Directory.{padded, entries, readEnd, directoryBlocks, directory, forkPlace, forkOf, entryIn, noEntry, flagsLock, blockCount, forkBlocks, named}
+use Rattle.model.specs.Check.{orElse, verdict}
+use Rattle.model.specs.declared.VolumeFacts.{VolumeFacts}
+use Rattle.model.specs.declared.DirectoryEntry.{DirectoryEntry}
+use Rattle.model.specs.declared.ForkFacts.{ForkFacts}
+use Rattle.model.specs.declared.AllocationBlock.{AllocationBlock}
+use Rattle.model.specs.declared.Fork.{Fork}
+use Rattle.model.specs.declared.Fork.the-variants.{Data, Resource}
+
+-- a call with all its arguments; read's buffer is the one that is lent
+pub data Call : Type 0 where
+  check : Call
+  entry : (place : ℕ) → Call
+  find : (name : List ℕ) → Call
+  block : (name : List ℕ) (fork : Fork) (place : ℕ) → Call
+  read : (name : List ℕ) (fork : Fork) (offset : ℕ) (buffer : List ℕ) → Call
+  create : (name finder : List ℕ) (created changed : ℕ) → Call
+  write : (name : List ℕ) (fork : Fork) (offset : ℕ) (bytes : List ℕ) (changed : ℕ) → Call
+  cut : (name : List ℕ) (fork : Fork) (size changed : ℕ) → Call
+  delete : (name : List ℕ) → Call
+
+-- the name and the fork that a call is given
+unfoldable pub nameOf : Call → List ℕ
+nameOf check = []
+nameOf (entry place) = []
+nameOf (find name) = name
+nameOf (block name fork place) = name
+nameOf (read name fork offset buffer) = name
+nameOf (create name finder created changed) = name
+nameOf (write name fork offset bytes changed) = name
+nameOf (cut name fork size changed) = name
+nameOf (delete name) = name
+
+unfoldable pub forkGiven : Call → Fork
+forkGiven check = Data
+forkGiven (entry place) = Data
+forkGiven (find name) = Data
+forkGiven (block name fork place) = fork
+forkGiven (read name fork offset buffer) = fork
+forkGiven (create name finder created changed) = Data
+forkGiven (write name fork offset bytes changed) = fork
+forkGiven (cut name fork size changed) = fork
+forkGiven (delete name) = Data
+
+-- ---- The refusals after 1 to 10
+
+-- what they are decided from, beside the arguments
+pub record Known : Type 0 where
+  -- the volume is locked
+  pub locked : Bool
+  -- the number of files
+  pub files : ℕ
+  -- a file has the given name
+  pub exists : Bool
+  -- that file is locked
+  pub fileLocked : Bool
+  -- the logical length and the number of blocks of its given fork
+  pub logical : ℕ
+  pub blocks : ℕ
+  -- A, the free blocks and the next file number
+  pub size : ℕ
+  pub free : ℕ
+  pub next : ℕ
+  -- no directory block has room for the entry
+  pub full : Bool
+
+-- the fewest blocks of a bytes that hold n bytes
+unfoldable pub fewest : ℕ → ℕ → ℕ
+fewest n a = (n + (a - 1)) / a
+
+-- Write of n bytes at o: the logical length becomes the larger of itself and o+n.
+unfoldable pub grown : ℕ → ℕ → ℕ → ℕ
+grown logical o n = max logical (o + n)
+
+-- If that needs more blocks than the fork has, the missing ones are taken: the new blocks needed.
+unfoldable pub needed : ℕ → ℕ → ℕ → ℕ
+needed a logical blocks = fewest logical a - blocks
+
+-- 12: the given name's length is 0 or above 255
+unfoldable pub badName : List ℕ → Bool
+badName name = eqb (length name) 0 || ltb 255 (length name)
+
+-- Entry 13. Find 12, 13. Block 12, 13, 16. Read 12, 13, 16. Create 11, 12, 14, 19, 18. Write and cut 11, 12, 13, 15, 16, and
+-- write 17. Delete 11, 12, 13, 15.
+unfoldable pub refuses : Call → Known → ℕ
+refuses check k = 0
+refuses (entry place) k = orElse (leb (k .files) place) 13 0
+refuses (find name) k = orElse (badName name) 12 (orElse (not (k .exists)) 13 0)
+refuses (block name fork place) k =
+    orElse (badName name) 12 (orElse (not (k .exists)) 13 (orElse (leb (k .blocks) place) 16 0))
+refuses (read name fork offset buffer) k =
+    orElse (badName name) 12 (orElse (not (k .exists)) 13 (orElse (ltb (k .logical) offset) 16 0))
+refuses (create name finder created changed) k =
+    orElse (k .locked) 11 (orElse (badName name) 12 (orElse (k .exists) 14
+    (orElse (eqb (k .next) 4294967295) 19 (orElse (k .full) 18 0))))
+refuses (write name fork offset bytes changed) k =
+    orElse (k .locked) 11 (orElse (badName name) 12 (orElse (not (k .exists)) 13
+    (orElse (k .fileLocked) 15 (orElse (ltb (k .logical) offset) 16
+    (orElse (ltb (k .free) (needed (k .size) (grown (k .logical) offset (length bytes)) (k .blocks))) 17 0)))))
+refuses (cut name fork size changed) k =
+    orElse (k .locked) 11 (orElse (badName name) 12 (orElse (not (k .exists)) 13
+    (orElse (k .fileLocked) 15 (orElse (ltb (k .logical) size) 16 0))))
+refuses (delete name) k =
+    orElse (k .locked) 11 (orElse (badName name) 12 (orElse (not (k .exists)) 13 (orElse (k .fileLocked) 15 0)))
+
+-- ---- What the image says
+
+-- the entry of that name; no bytes where there is none
+unfoldable pub entryNamed : List ℕ → List ℕ → List ℕ
+entryNamed name image = first (named name) [] (directory image)
+
+-- room is counted from the end of the block's reading to the block's end
+unfoldable pub hasRoom : ℕ → List ℕ → Bool
+hasRoom size b = leb (readEnd b + size) 512
+
+unfoldable pub knownIn : List ℕ → List ℕ → Fork → Known
+knownIn image name fork =
+    let f = factsOf image in
+    let g = forkOf fork (entryNamed name image) in
+    record {
+      locked = isLocked f;
+      files = length (directory image);
+      exists = any (named name) (directory image);
+      fileLocked = flagsLock (byte (entryNamed name image) 0);
+      logical = g .logical;
+      blocks = blockCount (A f) g;
+      size = A f;
+      free = freeCount f;
+      next = nextNumber f;
+      full = not (any (hasRoom (padded (51 + length name))) (directoryBlocks f image));
+    }
+
+-- Every call runs 1 to 10. Then its own.
+unfoldable pub refusal : Call → List ℕ → ℕ
+refusal call image = let own = refuses call (knownIn image (nameOf call) (forkGiven call)) in firstOf (verdict image) own
+
+-- ---- Fork bytes
+
+-- the bytes of the blocks, one block after the other
+unfoldable pub bytesOf : ℕ → ℕ → List ℕ → List ℕ → List ℕ
+bytesOf s a image [] = []
+bytesOf s a image (b ∷ bs) = part (blockByte s a b) a image ++ bytesOf s a image bs
+
+-- a fork's bytes: as many of its blocks' as its logical length
+unfoldable pub forkBytes : ℕ → ℕ → List ℕ → ForkFacts → List ℕ
+forkBytes s a image g = take (g .logical) (bytesOf s a image (forkBlocks (mapEntry image) a g))
+
+-- the image with c for the bytes of the blocks
+unfoldable pub putBlocks : ℕ → ℕ → List ℕ → List ℕ → List ℕ → List ℕ
+putBlocks s a image [] c = image
+putBlocks s a image (b ∷ bs) c = putBlocks s a (paste image (blockByte s a b) c a) bs (drop a c)
+
+-- the image with xs from place o of the blocks' bytes on
+unfoldable pub putContent : ℕ → ℕ → List ℕ → List ℕ → ℕ → List ℕ → List ℕ
+putContent s a image bs o xs = putBlocks s a image bs (paste (bytesOf s a image bs) o xs (length xs))
+
+-- Read at offset o copies the smaller of the buffer's length and logical length − o, and gives that count.
+unfoldable pub readCount : ℕ → ℕ → ℕ → ℕ
+readCount room logical o = min room (logical - o)
+
+-- The buffer's rest is unchanged.
+unfoldable pub copied : List ℕ → ℕ → List ℕ → List ℕ
+copied bytes o buffer =
+    let n = readCount (length buffer) (length bytes) o in
+    part o n bytes ++ drop n buffer
+
+-- ---- What a change leaves
+
+-- a directory block with these entries: all bytes behind its last entry are zero
+unfoldable pub filled : List (List ℕ) → List ℕ
+filled es = flat es ++ zeros (512 - length (flat es))
+
+-- Create: flags 80 hex, version 0, the next file number, all fork fields and the pad byte zero, name, Finder bytes and both
+-- dates as given.
+unfoldable pub newEntry : ℕ → List ℕ → List ℕ → ℕ → ℕ → List ℕ
+newEntry number name finder created changed =
+    0x80 ∷ 0 ∷ (finder ++ (u32 number ++ (zeros 20 ++ (u32 created ++ (u32 changed
+    ++ (length name ∷ (name ++ zeros ((51 + length name) % 2))))))))
+
+-- It puts an entry after the last one of the first directory block with room.
+unfoldable pub placed : List ℕ → List (List ℕ) → List (List ℕ)
+placed e [] = []
+placed e (b ∷ bs) =
+    elim (hasRoom (length e) b) [ true ↦ filled (entries b ++ (e ∷ [])) ∷ bs | false ↦ b ∷ placed e bs ]
+
+-- Delete moves the later entries of that directory block up.
+unfoldable pub removedIn : List ℕ → List ℕ → List ℕ
+removedIn name b =
+    elim (any (named name) (entries b)) [ true ↦ filled (keep (λ e. not (named name e)) (entries b)) | false ↦ b ]
+
+unfoldable pub removed : List ℕ → List (List ℕ) → List (List ℕ)
+removed name bs = map (removedIn name) bs
+
+-- write and cut: f is done to the entry of that name, and all else stays
+unfoldable pub onNamed : List ℕ → (List ℕ → List ℕ) → List ℕ → List ℕ
+onNamed name f e = cond (named name e) (f e) e
+
+unfoldable pub rewrittenIn : List ℕ → (List ℕ → List ℕ) → List ℕ → List ℕ
+rewrittenIn name f b = flat (map (onNamed name f) (entries b)) ++ drop (readEnd b) b
+
+unfoldable pub rewritten : List ℕ → (List ℕ → List ℕ) → List (List ℕ) → List (List ℕ)
+rewritten name f bs = map (rewrittenIn name f) bs
+
+-- the fork's fields and the change date: the fork starts at the first of its blocks, and with none the start is 0; physical
+-- length is the fork's block count times A
+unfoldable pub withFork : Fork → ℕ → ℕ → List ℕ → ℕ → List ℕ → List ℕ
+withFork fork a logical bs changed e =
+    sets (sets e (forkPlace fork) (u16 (firstOr0 bs) ++ (u32 logical ++ u32 (length bs * a)))) 46 (u32 changed)
+
+-- the image with these directory blocks
+unfoldable pub withDirectory : VolumeFacts → List ℕ → List (List ℕ) → List ℕ
+withDirectory f image bs = paste image (512 * dirStart f) (flat bs) (512 * dirLength f)
+
+-- the image with this number of files, this next file number, this free count
+unfoldable pub withFiles : ℕ → List ℕ → List ℕ
+withFiles n image = sets image 1036 (u16 n)
+
+unfoldable pub withNext : ℕ → List ℕ → List ℕ
+withNext n image = sets image 1054 (u32 n)
+
+unfoldable pub withFree : ℕ → List ℕ → List ℕ
+withFree n image = sets image 1058 (u16 n)
+
+-- Create. The next file number and the number of files go up by one.
+unfoldable pub created : VolumeFacts → List ℕ → List ℕ → List ℕ
+created f image e =
+    withFiles (f .files + 1) (withNext (nextNumber f + 1) (withDirectory f image (placed e (directoryBlocks f image))))
+
+-- Write: the missing blocks are taken, lowest free number first, and joined at the end in that order; the last one's entry is
+-- 1. Bytes of new blocks beyond the written ones stay. The change date is as given, also for n = 0.
+unfoldable pub written : VolumeFacts → List ℕ → List ℕ → Fork → ℕ → List ℕ → ℕ → ForkFacts → List ℕ
+written f image name fork o xs changed g =
+    let old = forkBlocks (mapEntry image) (A f) g in
+    let logical = grown (g .logical) o (length xs) in
+    let new = needed (A f) logical (length old) in
+    let all = old ++ take new (freeBlocks (mapEntry image) (N f)) in
+    withFree (freeCount f - new)
+    (withDirectory f (putContent (S f) (A f) (putChain image all) all o xs)
+    (rewritten name (withFork fork (A f) logical all changed) (directoryBlocks f image)))
+
+-- Cut to n keeps the fork's first blocks, the fewest that hold n bytes; the last one kept gets entry 1; the others become free,
+-- their bytes unchanged.
+unfoldable pub shortened : VolumeFacts → List ℕ → List ℕ → Fork → ℕ → ℕ → ForkFacts → List ℕ
+shortened f image name fork n changed g =
+    let old = forkBlocks (mapEntry image) (A f) g in
+    let kept = take (fewest n (A f)) old in
+    let freed = drop (fewest n (A f)) old in
+    withFree (freeCount f + length freed)
+    (withDirectory f (putFree (putChain image kept) freed)
+    (rewritten name (withFork fork (A f) n kept changed) (directoryBlocks f image)))
+
+-- Delete frees both forks, the blocks' bytes unchanged, and lowers the number of files.
+unfoldable pub deleted : VolumeFacts → List ℕ → List ℕ → List ℕ → List ℕ
+deleted f image name e =
+    let freed = forkBlocks (mapEntry image) (A f) (forkOf Data e) ++ forkBlocks (mapEntry image) (A f) (forkOf Resource e) in
+    withFree (freeCount f + length freed)
+    (withFiles (f .files - 1) (withDirectory f (putFree image freed) (removed name (directoryBlocks f image))))
+
+-- the image that a call leaves where it is not refused
+unfoldable pub change : Call → List ℕ → List ℕ
+change check image = image
+change (entry place) image = image
+change (find name) image = image
+change (block name fork place) image = image
+change (read name fork offset buffer) image = image
+change (create name finder made changed) image =
+    created (factsOf image) image (newEntry (nextNumber (factsOf image)) name finder made changed)
+change (write name fork offset bytes changed) image =
+    written (factsOf image) image name fork offset bytes changed (forkOf fork (entryNamed name image))
+change (cut name fork size changed) image =
+    shortened (factsOf image) image name fork size changed (forkOf fork (entryNamed name image))
+change (delete name) image = deleted (factsOf image) image name (entryNamed name image)
+
+-- ---- Answers
+
+-- what a call gives back: the number, and with success the facts, the place, the entry, the allocation block, the count and
+-- the buffer, each where the call has it
+pub record Answer : Type 0 where
+  pub number : ℕ
+  pub facts : VolumeFacts
+  pub place : ℕ
+  pub entry : DirectoryEntry
+  pub block : AllocationBlock
+  pub count : ℕ
+  pub buffer : List ℕ
+
+-- an answer with nothing but a number and a buffer: all other results are zero
+unfoldable pub only : ℕ → List ℕ → Answer
+only number buffer = record {
+  number = number;
+  facts = noFacts;
+  place = 0;
+  entry = noEntry;
+  block = record { 0 = 0 };
+  count = 0;
+  buffer = buffer;
+}
+
+unfoldable pub tellsFacts : VolumeFacts → Answer
+tellsFacts f = record { number = 0; facts = f; place = 0; entry = noEntry; block = record { 0 = 0 }; count = 0; buffer = [] }
+
+unfoldable pub tellsEntry : ℕ → DirectoryEntry → Answer
+tellsEntry place e =
+    record { number = 0; facts = noFacts; place = place; entry = e; block = record { 0 = 0 }; count = 0; buffer = [] }
+
+unfoldable pub tellsBlock : ℕ → Answer
+tellsBlock b = record { number = 0; facts = noFacts; place = 0; entry = noEntry; block = record { 0 = b }; count = 0; buffer = [] }
+
+unfoldable pub tellsBytes : List ℕ → ℕ → List ℕ → Answer
+tellsBytes bytes o buffer = record {
+  number = 0;
+  facts = noFacts;
+  place = 0;
+  entry = noEntry;
+  block = record { 0 = 0 };
+  count = readCount (length buffer) (length bytes) o;
+  buffer = copied bytes o buffer;
+}
+
+-- the answer of a call that is not refused
+unfoldable pub reply : Call → List ℕ → Answer
+reply check image = tellsFacts (factsOf image)
+reply (entry place) image = tellsEntry 0 (entryIn (getD (directory image) place []))
+reply (find name) image = tellsEntry (placeOf (named name) (directory image)) (entryIn (entryNamed name image))
+reply (block name fork place) image =
+    tellsBlock (getD (forkBlocks (mapEntry image) (A (factsOf image)) (forkOf fork (entryNamed name image))) place 0)
+reply (read name fork offset buffer) image =
+    tellsBytes (forkBytes (S (factsOf image)) (A (factsOf image)) image (forkOf fork (entryNamed name image))) offset buffer
+reply (create name finder made changed) image = only 0 []
+reply (write name fork offset bytes changed) image = only 0 []
+reply (cut name fork size changed) image = only 0 []
+reply (delete name) image = only 0 []
+
+-- the buffer that is lent
+unfoldable pub lent : Call → List ℕ
+lent check = []
+lent (entry place) = []
+lent (find name) = []
+lent (block name fork place) = []
+lent (read name fork offset buffer) = buffer
+lent (create name finder created changed) = []
+lent (write name fork offset bytes changed) = []
+lent (cut name fork size changed) = []
+lent (delete name) = []
+
+-- A refusal gives its number, all other results are zero, and no lent byte changes.
+unfoldable pub answer : Call → List ℕ → Answer
+answer call image =
+    let r = reply call image in
+    cond (eqb (refusal call image) 0) r (only (refusal call image) (lent call))
+
+unfoldable pub after : Call → List ℕ → List ℕ
+after call image = let changed = change call image in cond (eqb (refusal call image) 0) changed image
+
+-- ---- A call that was made
+
+-- The arguments fit their types; arguments of fixed size come whole.
+unfoldable pub Fits : Call → Type 0
+Fits check = Unit
+Fits (entry place) = place < 2 ^ 64
+Fits (find name) = Bytes name
+Fits (block name fork place) = Bytes name × (place < 2 ^ 64)
+Fits (read name fork offset buffer) = Bytes name × (offset < 2 ^ 64) × Bytes buffer
+Fits (create name finder created changed) =
+    Bytes name × Bytes finder × (length finder ≡ 16) × (created < 2 ^ 32) × (changed < 2 ^ 32)
+Fits (write name fork offset bytes changed) = Bytes name × (offset < 2 ^ 64) × Bytes bytes × (changed < 2 ^ 32)
+Fits (cut name fork size changed) = Bytes name × (size < 2 ^ 64) × (changed < 2 ^ 32)
+Fits (delete name) = Bytes name
+
+-- the call on the image gave this answer and left this image
+pub record Does (call : Call) (image : List ℕ) (given : Answer) (left : List ℕ) : Type 0 where
+  pub bytes : Bytes image
+  pub fits : Fits call
+  pub answers : given ≡ answer call image
+  pub leaves : left ≡ after call image

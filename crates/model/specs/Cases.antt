@@ -1,0 +1,420 @@
+-- The disk HALL, the P cases as one table under one statement, and a second table of further cases.
+use Prim.Native.Nat.{ℕ, zero, suc, _+_, _-_, _*_, _/_, _%_}
+use mathlib.Core.Path.{_≡_}
+use mathlib.Core.Bool.{Bool, true, false}
+use mathlib.Core.List.{List, [], _∷_, _++_, map}
+use lib.ListN.{length, take, drop, replicate}
+use lib.Seq.{paste}
+use Rattle.model.specs.Lists.{flat, from}
+use Rattle.model.specs.Bytes.{byte, u16, u32, zeros, part}
+use Rattle.model.specs.Facts.{factsOf, blocksIn, noFacts}
+use Rattle.model.specs.Map.{mapEntry}
+use Rattle.model.specs.Directory.{noEntry}
+use Rattle.model.specs.Check.{fires3, verdict}
+use Rattle.model.specs.Calls.{Call, Answer, only, tellsFacts, tellsEntry, tellsBlock, answer, after}
+use Rattle.model.specs.Calls.Call.{check, entry, find, block, read, create, write, cut, delete}
+use Rattle.model.specs.declared.VolumeFacts.{VolumeFacts}
+use Rattle.model.specs.declared.DirectoryEntry.{DirectoryEntry}
+use Rattle.model.specs.declared.Fork.the-variants.{Data, Resource}
+
+-- ---- Disks of N = 5 allocation blocks of 512 bytes, named HALL
+
+-- the numbers in which they differ, the map's first 8 bytes, the directory blocks' bytes
+pub record Plan : Type 0 where
+  pub attributes : ℕ
+  pub files : ℕ
+  pub dirLength : ℕ
+  pub next : ℕ
+  pub free : ℕ
+  pub map : List ℕ
+  pub directory : List ℕ
+
+-- volume information: the directory starts at 4 and S is behind it
+unfoldable pub info : Plan → List ℕ
+info p =
+    flat
+    ((0xd2 ∷ 0xd7 ∷ zeros 8) ∷ u16 (p .attributes) ∷ u16 (p .files) ∷ u16 4 ∷ u16 (p .dirLength) ∷ u16 5 ∷ u32 512 ∷ u32 0
+    ∷ u16 (4 + p .dirLength) ∷ u32 (p .next) ∷ u16 (p .free) ∷ (4 ∷ 72 ∷ 65 ∷ 76 ∷ 76 ∷ zeros 23) ∷ [])
+
+-- the first n bytes of l with zeros behind it
+abbrev pub upTo : ℕ → List ℕ → List ℕ
+upTo n l = take n (l ++ zeros n)
+
+-- the allocation blocks and the last two blocks hold zeros
+unfoldable pub disk : Plan → List ℕ
+disk p = flat (zeros 1024 ∷ info p ∷ upTo 960 (p .map) ∷ upTo (512 * p .dirLength) (p .directory) ∷ zeros 3584 ∷ [])
+
+-- an entry: flags, number, the two forks' fields, dates, name, and what pads it
+unfoldable pub entryBytes : ℕ → ℕ → List ℕ → List ℕ → ℕ → ℕ → List ℕ → List ℕ → List ℕ
+entryBytes flags number content resource created changed name pad =
+    flat ((flags ∷ zeros 17) ∷ u32 number ∷ content ∷ resource ∷ u32 created ∷ u32 changed ∷ (length name ∷ name) ∷ pad ∷ [])
+
+abbrev pub forkBytesOf : ℕ → ℕ → ℕ → List ℕ
+forkBytesOf start logical physical = u16 start ++ (u32 logical ++ u32 physical)
+
+abbrev pub WEEK1 : List ℕ
+WEEK1 = 87 ∷ 69 ∷ 69 ∷ 75 ∷ 49 ∷ []
+
+abbrev pub week1 : List ℕ
+week1 = 119 ∷ 101 ∷ 101 ∷ 107 ∷ 49 ∷ []
+
+abbrev pub RATES : List ℕ
+RATES = 82 ∷ 65 ∷ 84 ∷ 69 ∷ 83 ∷ []
+
+-- ---- HALL: 12 blocks, directory at 4 of length 1, S = 5, A = 512, N = 5, next number 3.
+
+-- WEEK1: number 1, 700 data bytes in blocks 2 and 4.
+unfoldable pub weekEntry : List ℕ
+weekEntry = entryBytes 0x80 1 (forkBytesOf 2 700 1024) (zeros 10) 2500000000 2500600000 WEEK1 []
+
+-- RATES: number 2, 512 data bytes in block 3.
+unfoldable pub ratesEntry : List ℕ
+ratesEntry = entryBytes 0x80 2 (forkBytesOf 3 512 512) (zeros 10) 2500000000 2500000000 RATES []
+
+unfoldable pub hallMap : List ℕ
+hallMap = 0x00 ∷ 0x40 ∷ 0x01 ∷ 0x00 ∷ 0x10 ∷ 0x00 ∷ 0x00 ∷ 0x00 ∷ []
+
+unfoldable pub hallPlan : Plan
+hallPlan = record { attributes = 0; files = 2; dirLength = 1; next = 3; free = 2; map = hallMap; directory = weekEntry ++ ratesEntry }
+
+unfoldable pub hall : List ℕ
+hall = disk hallPlan
+
+-- the image with xs at byte p
+unfoldable pub withBytes : ℕ → List ℕ → List ℕ → List ℕ
+withBytes p xs image = paste image p xs (length xs)
+
+-- n bytes from the k-th on of 1, 2, .. 251, 1, ..
+unfoldable pub sample : ℕ → ℕ → List ℕ
+sample k n = map (λ i. i % 251 + 1) (from n k)
+
+-- WEEK1 with another data fork and another change date
+unfoldable pub withWeek1 : ℕ → ℕ → ℕ → ℕ → List ℕ → List ℕ
+withWeek1 start logical physical changed image = withBytes 2070 (forkBytesOf start logical physical) (withBytes 2094 (u32 changed) image)
+
+-- HALL with another free count, and with another map entry for block 4
+unfoldable pub freeCount3 : List ℕ
+freeCount3 = withBytes 1058 (u16 3) hall
+
+unfoldable pub ring : List ℕ
+ring = withBytes 1092 (0x20 ∷ []) hall
+
+-- ---- An 800-block image, S = 16, A = 1,024, and N as given
+
+unfoldable pub info800 : ℕ → List ℕ
+info800 n =
+    flat
+    ((0xd2 ∷ 0xd7 ∷ zeros 8) ∷ u16 0 ∷ u16 0 ∷ u16 4 ∷ u16 12 ∷ u16 n ∷ u32 1024 ∷ u32 0 ∷ u16 16 ∷ u32 1 ∷ u16 n ∷ zeros 28 ∷ [])
+
+-- ---- Rows
+
+pub data Row : Type 0 where
+  -- three bytes of the map, and the two entries that they read as
+  pair : (ab cd ef first second : ℕ) → Row
+  -- an image has these bytes at a place, and the next one's high half-byte
+  has : (image : List ℕ) (place : ℕ) (bytes : List ℕ) (high : ℕ) → Row
+  -- a call on an image, its whole answer and the whole image that it leaves
+  does : (image : List ℕ) (call : Call) (given : Answer) (left : List ℕ) → Row
+  -- every 800-block image of so many allocation blocks passes check 3, or gets 3
+  passes3 : (n : ℕ) → Row
+  gives3 : (n : ℕ) → Row
+
+unfoldable pub Right : Row → Type 0
+Right (pair ab cd ef x y) =
+    (mapEntry (zeros 1088 ++ (ab ∷ cd ∷ ef ∷ [])) 2 ≡ x) × (mapEntry (zeros 1088 ++ (ab ∷ cd ∷ ef ∷ [])) 3 ≡ y)
+Right (has image place bytes high) = (part place (length bytes) image ≡ bytes) × (byte image (place + length bytes) / 16 ≡ high)
+Right (does image call given left) = (answer call image ≡ given) × (after call image ≡ left)
+Right (passes3 n) =
+    (image : List ℕ) → length image ≡ 409600 → part 1024 64 image ≡ info800 n → fires3 (factsOf image) (blocksIn image) ≡ false
+Right (gives3 n) = (image : List ℕ) → length image ≡ 409600 → part 1024 64 image ≡ info800 n → verdict image ≡ 3
+
+-- every row of the list
+infixr 5 _&_
+pub data AllRight : List Row → Type 0 where
+  end : AllRight []
+  _&_ : {r : Row} {rs : List Row} → Right r → AllRight rs → AllRight (r ∷ rs)
+
+-- ---- The P cases: each starts from HALL
+
+unfoldable pub weekFacts : DirectoryEntry
+weekFacts = record {
+  flags = 0x80;
+  version = 0;
+  finder = zeros 16;
+  number = 1;
+  «data» = record { start = record { 0 = 2 }; logical = 700; physical = 1024 };
+  resource = record { start = record { 0 = 0 }; logical = 0; physical = 0 };
+  created = 2500000000;
+  changed = 2500600000;
+  «name_length» = 5;
+  name = WEEK1 ++ zeros 250;
+}
+
+unfoldable pub pCases : List Row
+pCases =
+    -- P1 AB CD EF reads as ABC, DEF.
+    pair 0xab 0xcd 0xef 0xabc 0xdef
+    -- P2 map bytes 00 40 01 00 10 00 00 and a high half-byte 0.
+    ∷ has hall 1088 (0x00 ∷ 0x40 ∷ 0x01 ∷ 0x00 ∷ 0x10 ∷ 0x00 ∷ 0x00 ∷ []) 0
+    -- P3 write 400 at 700 in WEEK1: block 4 leads to 5, map begins 00 40 01 00 50 01, one free.
+    ∷ does hall (write WEEK1 Data 700 (sample 0 400) 9) (only 0 [])
+    (withBytes 1058 (u16 1) (withBytes 1088 (0x00 ∷ 0x40 ∷ 0x01 ∷ 0x00 ∷ 0x50 ∷ 0x01 ∷ [])
+    (withWeek1 2 1100 1536 9 (withBytes 3772 (sample 0 324) (withBytes 4096 (sample 324 76) hall)))))
+    -- P4 write 1,348 at 700: four blocks, none free.
+    ∷ does hall (write WEEK1 Data 700 (sample 0 1348) 9) (only 0 [])
+    (withBytes 1058 (u16 0) (withBytes 1088 (0x00 ∷ 0x40 ∷ 0x01 ∷ 0x00 ∷ 0x50 ∷ 0x06 ∷ 0x00 ∷ 0x10 ∷ [])
+    (withWeek1 2 2048 2048 9 (withBytes 3772 (sample 0 324) (withBytes 4096 (sample 324 1024) hall)))))
+    -- P5 write 1,349 at 700: 17.
+    ∷ does hall (write WEEK1 Data 700 (sample 0 1349) 9) (only 17 []) hall
+    -- P6 write 0 at 700: only the date. At 701: 16.
+    ∷ does hall (write WEEK1 Data 700 [] 9) (only 0 []) (withBytes 2094 (u32 9) hall)
+    ∷ does hall (write WEEK1 Data 701 [] 9) (only 16 []) hall
+    -- P7 cut WEEK1 to 513: two blocks stay.
+    ∷ does hall (cut WEEK1 Data 513 9) (only 0 []) (withWeek1 2 513 1024 9 hall)
+    -- P8 cut to 512: entry 2 is 1, entry 4 is 0, three free.
+    ∷ does hall (cut WEEK1 Data 512 9) (only 0 [])
+    (withBytes 1058 (u16 3) (withBytes 1088 (0x00 ∷ 0x10 ∷ 0x01 ∷ 0x00 ∷ 0x00 ∷ 0x00 ∷ []) (withWeek1 2 512 512 9 hall)))
+    -- P9 delete RATES: map begins 00 40 00 00 10 00; the directory block is zero from byte 56.
+    ∷ does hall (delete RATES) (only 0 [])
+    (withBytes 1036 (u16 1) (withBytes 1058 (u16 3) (withBytes 1088 (0x00 ∷ 0x40 ∷ 0x00 ∷ 0x00 ∷ 0x10 ∷ 0x00 ∷ [])
+    (withBytes 2104 (zeros 456) hall))))
+    -- P10 "week1" is found; create of it: 14.
+    ∷ does hall (find week1) (tellsEntry 0 weekFacts) hall
+    ∷ does hall (create week1 (zeros 16) 7 8) (only 14 []) hall
+    -- P11 free count 3: 10. P12 entry 4 leading to 2: 8.
+    ∷ does freeCount3 check (only 10 []) freeCount3
+    ∷ does ring check (only 8 []) ring
+    -- An 800-block image, S = 16, A = 1,024: N = 391 passes check 3, N = 392 gives 3.
+    ∷ passes3 391
+    ∷ gives3 392
+    ∷ []
+
+unfoldable pub PCases : Type 0
+PCases = AllRight pCases
+
+-- ---- Further cases
+
+-- a check that refuses, and a call that refuses
+abbrev pub bad : ℕ → List ℕ → Row
+bad number image = does image check (only number []) image
+
+abbrev pub refused : ℕ → Call → List ℕ → Row
+refused number call image = does image call (only number []) image
+
+-- HALL's facts as its bytes have them
+unfoldable pub hallFacts : VolumeFacts
+hallFacts = record {
+  signature = 0xd2d7;
+  created = 0;
+  backup = 0;
+  attributes = 0;
+  files = 2;
+  «directory_start» = record { 0 = 4 };
+  «directory_length» = 1;
+  «allocation_blocks» = 5;
+  «block_size» = 512;
+  «clump_size» = 0;
+  «allocation_start» = record { 0 = 5 };
+  «next_number» = 3;
+  «free_blocks» = 2;
+  «name_length» = 4;
+  name = 72 ∷ 65 ∷ 76 ∷ 76 ∷ zeros 23;
+}
+
+unfoldable pub ratesFacts : DirectoryEntry
+ratesFacts = record {
+  flags = 0x80;
+  version = 0;
+  finder = zeros 16;
+  number = 2;
+  «data» = record { start = record { 0 = 3 }; logical = 512; physical = 512 };
+  resource = record { start = record { 0 = 0 }; logical = 0; physical = 0 };
+  created = 2500000000;
+  changed = 2500000000;
+  «name_length» = 5;
+  name = RATES ++ zeros 250;
+}
+
+abbrev pub NEWS : List ℕ
+NEWS = 78 ∷ 69 ∷ 87 ∷ 83 ∷ []
+
+-- a file NEWS with no bytes, whose pad byte is as given
+unfoldable pub newsEntry : ℕ → ℕ → List ℕ
+newsEntry number pad = entryBytes 0x80 number (zeros 10) (zeros 10) 7 8 NEWS (pad ∷ [])
+
+-- NEWS with a pad byte that is not zero, then RATES
+unfoldable pub paddedDisk : List ℕ
+paddedDisk =
+    disk
+    (record { attributes = 0; files = 2; dirLength = 1; next = 3; free = 4; map = 0 ∷ 0 ∷ 1 ∷ []; directory = newsEntry 1 0xaa ++ ratesEntry })
+
+-- HALL with bytes behind the last entry, the first of them 7F hex
+unfoldable pub staleDisk : List ℕ
+staleDisk = withBytes 2160 (0x7f ∷ sample 0 351) hall
+
+-- HALL with dead space: the low half-byte behind the last map entry, and the bytes behind the map
+unfoldable pub deadDisk : List ℕ
+deadDisk = withBytes 1095 (0x0f ∷ sample 0 952) hall
+
+-- HALL with bytes in WEEK1's blocks
+unfoldable pub fullWeek : List ℕ
+fullWeek = withBytes 2560 (sample 0 512) (withBytes 3584 (sample 512 512) hall)
+
+-- HALL, WEEK1 being of 100 bytes in the same two blocks
+unfoldable pub roomyDisk : List ℕ
+roomyDisk = withBytes 2072 (u32 100) hall
+
+-- a directory block that is full to its last byte: a name of 255 and one of 155
+unfoldable pub longName : ℕ → ℕ → List ℕ
+longName c n = replicate n c
+
+unfoldable pub longDisk : ℕ → List ℕ
+longDisk n =
+    disk
+    (record {
+      attributes = 0;
+      files = 2;
+      dirLength = 1;
+      next = 9;
+      free = 5;
+      map = [];
+      directory = entryBytes 0x80 1 (zeros 10) (zeros 10) 7 8 (longName 65 255) []
+          ++ entryBytes 0xff 2 (zeros 10) (zeros 10) 7 8 (longName 66 n) [];
+    })
+
+-- two directory blocks: the first full but for 100 bytes, the second with RATES; S is 6
+unfoldable pub twoBlocks : List ℕ
+twoBlocks =
+    disk
+    (record {
+      attributes = 0;
+      files = 2;
+      dirLength = 2;
+      next = 3;
+      free = 4;
+      map = 0 ∷ 0 ∷ 1 ∷ [];
+      directory = upTo 512 (entryBytes 0x80 1 (zeros 10) (zeros 10) 7 8 (longName 65 255) []) ++ ratesEntry;
+    })
+
+-- what read gives back, and what find tells of the first file of longDisk
+unfoldable pub tellsRead : ℕ → List ℕ → Answer
+tellsRead count buffer =
+    record { number = 0; facts = noFacts; place = 0; entry = noEntry; block = record { 0 = 0 }; count = count; buffer = buffer }
+
+unfoldable pub longFacts : ℕ → DirectoryEntry
+longFacts n = record {
+  flags = 0x80;
+  version = 0;
+  finder = zeros 16;
+  number = 1;
+  «data» = record { start = record { 0 = 0 }; logical = 0; physical = 0 };
+  resource = record { start = record { 0 = 0 }; logical = 0; physical = 0 };
+  created = 7;
+  changed = 8;
+  «name_length» = n;
+  name = longName 65 n;
+}
+
+unfoldable pub furtherCases : List Row
+furtherCases =
+    -- 1 to 4
+    bad 1 []
+    ∷ bad 1 (zeros 3584)
+    ∷ bad 1 (zeros 4097)
+    ∷ bad 2 (zeros 4096)
+    ∷ bad 2 (withBytes 1025 (0xd6 ∷ []) hall)
+    ∷ bad 3 (withBytes 1045 (0x00 ∷ 0x02 ∷ 0x01 ∷ []) hall)
+    ∷ bad 3 (withBytes 1042 (u16 0) hall)
+    ∷ bad 3 (withBytes 1042 (u16 6) hall)
+    ∷ bad 3 (withBytes 1038 (u16 3) hall)
+    ∷ bad 3 (withBytes 1040 (u16 2) hall)
+    ∷ bad 3 (withBytes 1054 (u32 0) hall)
+    ∷ bad 4 (withBytes 1060 (28 ∷ []) hall)
+    -- 5: the entry of block 5 is 7, N + 1 being 6
+    ∷ bad 5 (withBytes 1093 (0x07 ∷ []) hall)
+    -- 6: another version, no name, an entry that crosses its block
+    ∷ bad 6 (withBytes 2049 (1 ∷ []) hall)
+    ∷ bad 6 (withBytes 2154 (0 ∷ []) hall)
+    ∷ bad 6 (longDisk 157)
+    -- 7: another count, a number that is 0, repeated or not below the next, equal names
+    ∷ bad 7 (withBytes 1036 (u16 3) hall)
+    ∷ bad 7 (withBytes 2122 (u32 0) hall)
+    ∷ bad 7 (withBytes 2122 (u32 1) hall)
+    ∷ bad 7 (withBytes 2122 (u32 3) hall)
+    ∷ bad 7 (withBytes 2155 week1 hall)
+    -- 8: start 0 and a length; start 1; above N + 1; no multiple of A; logical above physical; a chain too long or too short
+    ∷ bad 8 (withBytes 2070 (u16 0) hall)
+    ∷ bad 8 (withBytes 2070 (u16 1) hall)
+    ∷ bad 8 (withBytes 2070 (u16 7) hall)
+    ∷ bad 8 (withBytes 2076 (u32 1023) hall)
+    ∷ bad 8 (withBytes 2072 (u32 1025) hall)
+    ∷ bad 8 (withBytes 2076 (u32 1536) hall)
+    ∷ bad 8 (withBytes 2072 (forkBytesOf 2 500 512) hall)
+    -- two forks share a block
+    ∷ bad 8 (withBytes 2136 (forkBytesOf 3 512 512) hall)
+    -- 9: the entry of block 5 is 1, and no fork has it
+    ∷ bad 9 (withBytes 1058 (u16 1) (withBytes 1093 (0x01 ∷ []) hall))
+    -- what is not judged: a pad byte, bytes behind the reading, dead space
+    ∷ does hall check (tellsFacts hallFacts) hall
+    ∷ does staleDisk check (tellsFacts hallFacts) staleDisk
+    ∷ does deadDisk check (tellsFacts hallFacts) deadDisk
+    ∷ does paddedDisk (entry 1) (tellsEntry 0 ratesFacts) paddedDisk
+    -- entry, find, block
+    ∷ does hall (entry 0) (tellsEntry 0 weekFacts) hall
+    ∷ refused 13 (entry 2) hall
+    ∷ does hall (find RATES) (tellsEntry 1 ratesFacts) hall
+    ∷ refused 12 (find []) hall
+    ∷ refused 12 (find (longName 65 256)) hall
+    ∷ refused 13 (find NEWS) hall
+    ∷ does hall (block WEEK1 Data 1) (tellsBlock 4) hall
+    ∷ refused 16 (block WEEK1 Data 2) hall
+    ∷ refused 16 (block WEEK1 Resource 0) hall
+    -- read across two blocks, at the end, beyond it, and into a buffer that is longer than what is there
+    ∷ does fullWeek (read WEEK1 Data 500 (replicate 100 0xee)) (tellsRead 100 (sample 500 100)) fullWeek
+    ∷ does fullWeek (read WEEK1 Data 690 (replicate 20 0xee)) (tellsRead 10 (sample 690 10 ++ replicate 10 0xee)) fullWeek
+    ∷ does fullWeek (read WEEK1 Data 700 (replicate 3 0xee)) (tellsRead 0 (replicate 3 0xee)) fullWeek
+    ∷ does fullWeek (read WEEK1 Data 18446744073709551615 (replicate 3 0xee)) (only 16 (replicate 3 0xee)) fullWeek
+    -- create: behind the last entry, stale bytes cleared, into an earlier block that has room again, into the next where it has not
+    ∷ does hall (create NEWS (sample 0 16) 7 8) (only 0 [])
+    (withBytes 1036 (u16 3) (withBytes 1054 (u32 4) (withBytes 2162 (sample 0 16)
+    (withBytes 2160 (newsEntry 3 0) hall))))
+    ∷ does staleDisk (create NEWS (zeros 16) 7 8) (only 0 [])
+    (withBytes 1036 (u16 3) (withBytes 1054 (u32 4) (withBytes 2160 (newsEntry 3 0 ++ zeros 296) staleDisk)))
+    ∷ does twoBlocks (create NEWS (zeros 16) 7 8) (only 0 [])
+    (withBytes 1036 (u16 3) (withBytes 1054 (u32 4) (withBytes 2354 (newsEntry 3 0) twoBlocks)))
+    ∷ does twoBlocks (create (longName 67 157) (zeros 16) 7 8) (only 0 [])
+    (withBytes 1036 (u16 3) (withBytes 1054 (u32 4)
+    (withBytes 2616 (entryBytes 0x80 3 (zeros 10) (zeros 10) 7 8 (longName 67 157) []) twoBlocks)))
+    ∷ does (longDisk 155) (find (longName 97 255)) (tellsEntry 0 (longFacts 255)) (longDisk 155)
+    ∷ refused 18 (create NEWS (zeros 16) 7 8) (longDisk 155)
+    ∷ refused 19 (create NEWS (zeros 16) 7 8) (withBytes 1054 (u32 4294967295) (longDisk 155))
+    -- write to an empty fork, with dead space beside the last entry, and where the fork has blocks to spare
+    ∷ does hall (write RATES Resource 0 (sample 0 3) 9) (only 0 [])
+    (withBytes 1058 (u16 1) (withBytes 1093 (0x01 ∷ []) (withBytes 2136 (forkBytesOf 5 3 512) (withBytes 2150 (u32 9)
+    (withBytes 4096 (sample 0 3) hall)))))
+    ∷ does deadDisk (write WEEK1 Data 700 (sample 0 1348) 9) (only 0 [])
+    (withBytes 1058 (u16 0) (withBytes 1092 (0x50 ∷ 0x06 ∷ 0x00 ∷ 0x1f ∷ [])
+    (withWeek1 2 2048 2048 9 (withBytes 3772 (sample 0 324) (withBytes 4096 (sample 324 1024) deadDisk)))))
+    ∷ does roomyDisk (write WEEK1 Data 100 (sample 0 924) 9) (only 0 [])
+    (withWeek1 2 1024 1024 9 (withBytes 2660 (sample 0 412) (withBytes 3584 (sample 412 512) roomyDisk)))
+    ∷ does roomyDisk (write WEEK1 Data 0 [] 9) (only 0 []) (withBytes 2094 (u32 9) roomyDisk)
+    ∷ does hall (write RATES Resource 0 [] 9) (only 0 []) (withBytes 2150 (u32 9) hall)
+    -- cut: to nothing, and where the fork has blocks to spare
+    ∷ does hall (cut WEEK1 Data 0 9) (only 0 [])
+    (withBytes 1058 (u16 4) (withBytes 1088 (0x00 ∷ 0x00 ∷ 0x01 ∷ 0x00 ∷ 0x00 ∷ []) (withWeek1 0 0 0 9 hall)))
+    ∷ does roomyDisk (cut WEEK1 Data 100 9) (only 0 [])
+    (withBytes 1058 (u16 3) (withBytes 1088 (0x00 ∷ 0x10 ∷ 0x01 ∷ 0x00 ∷ 0x00 ∷ []) (withWeek1 2 100 512 9 roomyDisk)))
+    ∷ refused 16 (cut WEEK1 Data 701 9) hall
+    -- delete of an entry before another, and over bytes behind the reading
+    ∷ does staleDisk (delete week1) (only 0 [])
+    (withBytes 1036 (u16 1) (withBytes 1058 (u16 4) (withBytes 1088 (0x00 ∷ 0x00 ∷ 0x01 ∷ 0x00 ∷ 0x00 ∷ [])
+    (withBytes 2048 (ratesEntry ++ zeros 456) staleDisk))))
+    -- 11 by either bit, 15
+    ∷ refused 11 (delete WEEK1) (withBytes 1034 (u16 0x0080) hall)
+    ∷ refused 11 (write [] Data 0 [] 9) (withBytes 1034 (u16 0x8000) hall)
+    ∷ refused 15 (cut WEEK1 Data 0 9) (withBytes 2048 (0x81 ∷ []) hall)
+    ∷ refused 13 (delete NEWS) hall
+    ∷ []
+
+unfoldable pub FurtherCases : Type 0
+FurtherCases = AllRight furtherCases

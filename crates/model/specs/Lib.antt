@@ -1,0 +1,9 @@
+pub mod Lists
+pub mod Bytes
+pub mod Facts
+pub mod Map
+pub mod Directory
+pub mod Check
+pub mod Calls
+pub mod History
+pub mod Cases
