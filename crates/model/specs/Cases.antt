@@ -315,8 +315,9 @@ longFacts n = record {
   name = longName 65 n;
 }
 
-unfoldable pub furtherCases : List Row
-furtherCases =
+-- each of checks 1 to 9
+unfoldable pub badVolumes : List Row
+badVolumes =
     -- 1 to 4
     bad 1 []
     ∷ bad 1 (zeros 3584)
@@ -349,13 +350,18 @@ furtherCases =
     ∷ bad 8 (withBytes 2076 (u32 1023) hall)
     ∷ bad 8 (withBytes 2072 (u32 1025) hall)
     ∷ bad 8 (withBytes 2076 (u32 1536) hall)
-    ∷ bad 8 (withBytes 2072 (forkBytesOf 2 500 512) hall)
+    ∷ bad 8 (withBytes 2070 (forkBytesOf 2 500 512) hall)
     -- two forks share a block
     ∷ bad 8 (withBytes 2136 (forkBytesOf 3 512 512) hall)
     -- 9: the entry of block 5 is 1, and no fork has it
     ∷ bad 9 (withBytes 1058 (u16 1) (withBytes 1093 (0x01 ∷ []) hall))
+    ∷ []
+
+-- the calls that read
+unfoldable pub readings : List Row
+readings =
     -- what is not judged: a pad byte, bytes behind the reading, dead space
-    ∷ does hall check (tellsFacts hallFacts) hall
+    does hall check (tellsFacts hallFacts) hall
     ∷ does staleDisk check (tellsFacts hallFacts) staleDisk
     ∷ does deadDisk check (tellsFacts hallFacts) deadDisk
     ∷ does paddedDisk (entry 1) (tellsEntry 0 ratesFacts) paddedDisk
@@ -374,8 +380,13 @@ furtherCases =
     ∷ does fullWeek (read WEEK1 Data 690 (replicate 20 0xee)) (tellsRead 10 (sample 690 10 ++ replicate 10 0xee)) fullWeek
     ∷ does fullWeek (read WEEK1 Data 700 (replicate 3 0xee)) (tellsRead 0 (replicate 3 0xee)) fullWeek
     ∷ does fullWeek (read WEEK1 Data 18446744073709551615 (replicate 3 0xee)) (only 16 (replicate 3 0xee)) fullWeek
+    ∷ []
+
+-- the calls that change
+unfoldable pub changings : List Row
+changings =
     -- create: behind the last entry, stale bytes cleared, into an earlier block that has room again, into the next where it has not
-    ∷ does hall (create NEWS (sample 0 16) 7 8) (only 0 [])
+    does hall (create NEWS (sample 0 16) 7 8) (only 0 [])
     (withBytes 1036 (u16 3) (withBytes 1054 (u32 4) (withBytes 2162 (sample 0 16)
     (withBytes 2160 (newsEntry 3 0) hall))))
     ∷ does staleDisk (create NEWS (zeros 16) 7 8) (only 0 [])
@@ -417,4 +428,4 @@ furtherCases =
     ∷ []
 
 unfoldable pub FurtherCases : Type 0
-FurtherCases = AllRight furtherCases
+FurtherCases = AllRight badVolumes × AllRight readings × AllRight changings

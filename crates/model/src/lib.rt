@@ -1,6 +1,13 @@
 // The types that the definitions of MFS share with the code, and the statements that the definitions are held to.
-ghost use Rattle.model.specs.Check.{VerdictIsAccepted};
 ghost use Rattle.model.specs.Cases.{FurtherCases, PCases};
+ghost use Rattle.model.specs.Check.{VerdictIsAccepted};
+
+mod blocks;
+mod numbers;
+mod volume_facts;
+
+pub use numbers::be16_at;
+pub use numbers::be32_at;
 
 // The number of an allocation block: 2 to N + 1.
 pub struct AllocationBlock(pub u16);
