@@ -1,6 +1,6 @@
 -- The history, which knows no image, map or directory block; how an image reads as facts and files; what must hold after each
 -- event of a run; and the claim on every run.
-use Prim.Native.Nat.{ℕ, zero, suc, _+_, _-_, _*_, _/_, _%_, _≤_, _<_}
+use Prim.Native.Nat.{ℕ, zero, suc, _+_, _-_, _*_, _/_, _%_, _≤_, _<_, max}
 use mathlib.Core.Path.{_≡_}
 use mathlib.Core.Bool.{Bool, true, false, _&&_, not, cond}
 use mathlib.Core.List.{List, [], _∷_, _++_, map}
@@ -8,12 +8,12 @@ use mathlib.Core.Logic.{_↔_}
 use lib.ListN.{length, getD, take, drop}
 use lib.Dec.{eqb, ltb}
 use Rattle.model.specs.Lists.{any, keep, first, Reordered, times}
-use Rattle.model.specs.Bytes.{byte, be32, zeros, half}
+use Rattle.model.specs.Bytes.{byte, be32, half, Bytes}
 use Rattle.model.specs.Facts.{factsOf, dirStart, dirLength, N, A, S, nextNumber, freeCount, isLocked, blockByte, withCounts, noFacts}
 use Rattle.model.specs.Map.{mapEntry}
 use Rattle.model.specs.Directory.{directory, numberIn, nameIn, finderIn, forkOf, wide, noEntry, flagsLock, blockCount, forkBlocks, sameName}
 use Rattle.model.specs.Check.{Accepted}
-use Rattle.model.specs.Calls.{Call, Known, fewest, grown, needed, badName, refuses, nameOf, forkGiven, entryNamed, forkBytes, readCount, copied, Answer, lent, Does}
+use Rattle.model.specs.Calls.{Call, Known, fewest, badName, refuses, nameOf, forkGiven, entryNamed, forkBytes, readCount, copied, Answer, lent, Does}
 use Rattle.model.specs.Calls.Call.{check, entry, find, block, read, create, write, cut, delete}
 use Rattle.model.specs.declared.VolumeFacts.{VolumeFacts}
 use Rattle.model.specs.declared.DirectoryEntry.{DirectoryEntry}
@@ -114,11 +114,11 @@ newFile number name finder created changed = record {
 unfoldable pub overwritten : List ℕ → ℕ → List ℕ → List ℕ
 overwritten old o xs = take o old ++ (xs ++ drop (o + length xs) old)
 
--- The count becomes the larger of itself and the fewest blocks that hold all; the rise is the new blocks needed.
+-- The count becomes the larger of itself and the fewest blocks that hold all.
 unfoldable pub writes : ℕ → ℕ → List ℕ → Held → Held
 writes a o xs g = record {
   bytes = overwritten (g .bytes) o xs;
-  count = g .count + needed a (grown (length (g .bytes)) o (length xs)) (g .count);
+  count = max (g .count) (fewest (length (overwritten (g .bytes) o xs)) a);
 }
 
 -- Cut keeps the first n bytes and the fewest blocks for them.
@@ -376,26 +376,37 @@ changes (delete name) = true
 
 -- ---- Refusal 17
 
--- A write that passes the earlier checks gets 17 exactly when the new blocks needed exceed the free ones; no other call gets 17.
-unfoldable pub RoomRule : History → Bool → Call → ℕ → Type 0
-RoomRule h full (write name fork offset bytes changed) number =
-    let k = knownTo h full name fork in
-    (k .locked ≡ false) → (badName name ≡ false) → (k .exists ≡ true) → (k .fileLocked ≡ false) → (offset ≤ k .logical)
-    → (number ≡ 17) ↔ (freeOf h < needed (k .size) (grown (k .logical) offset (length bytes)) (k .blocks))
-RoomRule h full check number = number ≡ 17 → ⊥
-RoomRule h full (entry place) number = number ≡ 17 → ⊥
-RoomRule h full (find name) number = number ≡ 17 → ⊥
-RoomRule h full (block name fork place) number = number ≡ 17 → ⊥
-RoomRule h full (read name fork offset buffer) number = number ≡ 17 → ⊥
-RoomRule h full (create name finder created changed) number = number ≡ 17 → ⊥
-RoomRule h full (cut name fork size changed) number = number ≡ 17 → ⊥
-RoomRule h full (delete name) number = number ≡ 17 → ⊥
+-- the new blocks that a write needs of a held fork: the rise of its count
+unfoldable pub rise : ℕ → ℕ → List ℕ → Held → ℕ
+rise a o xs g = writes a o xs g .count - g .count
+
+-- a write passes the checks before 17, and needs more new blocks than are free
+pub record NoRoom (h : History) (name : List ℕ) (fork : Fork) (offset : ℕ) (bytes : List ℕ) : Type 0 where
+  pub unlocked : isLocked (h .facts) ≡ false
+  pub titled : badName name ≡ false
+  pub there : any (called name) (h .files) ≡ true
+  pub writable : flagsLock (fileCalled name h .flags) ≡ false
+  pub within : offset ≤ length (heldOf fork (fileCalled name h) .bytes)
+  pub exceeds : freeOf h < rise (A (h .facts)) offset bytes (heldOf fork (fileCalled name h))
+
+-- A write gets 17 exactly then; no other call gets 17.
+unfoldable pub RoomRule : History → Call → ℕ → Type 0
+RoomRule h (write name fork offset bytes changed) number = (number ≡ 17) ↔ NoRoom h name fork offset bytes
+RoomRule h check number = number ≡ 17 → ⊥
+RoomRule h (entry place) number = number ≡ 17 → ⊥
+RoomRule h (find name) number = number ≡ 17 → ⊥
+RoomRule h (block name fork place) number = number ≡ 17 → ⊥
+RoomRule h (read name fork offset buffer) number = number ≡ 17 → ⊥
+RoomRule h (create name finder created changed) number = number ≡ 17 → ⊥
+RoomRule h (cut name fork size changed) number = number ≡ 17 → ⊥
+RoomRule h (delete name) number = number ≡ 17 → ⊥
 
 -- ---- The claim
 
 -- what must hold after an event on an image that reads as the history h
 pub record Step (e : Event) (image : List ℕ) (h : History) : Type 0 where
-  -- the image is accepted
+  -- the image is bytes, and accepted
+  pub bytes : Bytes (e .left)
   pub accepted : Accepted (e .left)
   -- it reads as the history says
   pub agrees : Agrees (e .left) (step h (isFull e) (e .call))
@@ -406,13 +417,16 @@ pub record Step (e : Event) (image : List ℕ) (h : History) : Type 0 where
   -- a refused call and one that only reads change nothing
   pub still : (changes (e .call) && eqb (e .given .number) 0) ≡ false → e .left ≡ image
   -- refused for room exactly when more new blocks are needed than are free
-  pub room : RoomRule h (isFull e) (e .call) (e .given .number)
+  pub room : RoomRule h (e .call) (e .given .number)
 
 -- every event of the list keeps step with the history
 unfoldable pub Holds : List ℕ → History → List Event → Type 0
 Holds image h [] = Unit
 Holds image h (e ∷ events) = Step e image h × Holds (e .left) (step h (isFull e) (e .call)) events
 
--- For every list of calls from an accepted image, refused ones included.
+-- For every list of calls from an accepted image, refused ones included: the history starts from what the image reads as, and
+-- every event keeps step with it.
 unfoldable pub EveryRun : Type 0
-EveryRun = (image : List ℕ) (events : List Event) → Accepted image → Run image events → Holds image (reading image) events
+EveryRun =
+    (image : List ℕ) (events : List Event) → Accepted image → Run image events
+    → Agrees image (reading image) × Holds image (reading image) events
