@@ -326,7 +326,7 @@ pub record Passes (image : List ℕ) : Type 0 where
   pub pass10 : fires10 (mapEntry image) (N (factsOf image)) (freeCount (factsOf image)) ≡ false
 
 -- the answer is 0 where this check fires not, and none behind it
-else-zero : (t : Bool) (k r : ℕ) → orElse t (suc k) r ≡ 0 → (t ≡ false) × (r ≡ 0)
+pub else-zero : (t : Bool) (k r : ℕ) → orElse t (suc k) r ≡ 0 → (t ≡ false) × (r ≡ 0)
 else-zero true k r e = absurd (omega arith)
 else-zero false k r e = (refl, e)
 
