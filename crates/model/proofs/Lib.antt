@@ -1,9 +1,10 @@
 pub mod Lists
-pub mod Times
 pub mod Reorder
+pub mod Times
 pub mod Bytes
 pub mod Facts
 pub mod Names
+pub mod Stores
 pub mod Map
 pub mod Check
 pub mod Sound
@@ -16,6 +17,13 @@ pub mod MapChecks
 pub mod Alike
 pub mod Octets
 pub mod MapSteps
+pub mod Block
+pub mod Entry
+pub mod Blocks
+pub mod Kept
+pub mod Places
+pub mod Image
+pub mod DirectorySteps
 pub mod Answers
 pub mod Run
 pub mod Cases

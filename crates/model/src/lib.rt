@@ -2,7 +2,7 @@
 ghost use Rattle.model.specs.Cases.{FurtherCases, PCases};
 ghost use Rattle.model.specs.Check.{VerdictIsAccepted};
 
-mod blocks;
+mod block_numbers;
 mod numbers;
 mod volume_facts;
 
