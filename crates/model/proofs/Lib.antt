@@ -25,5 +25,6 @@ pub mod Places
 pub mod Image
 pub mod DirectorySteps
 pub mod Answers
+pub mod Reading
 pub mod Run
 pub mod Cases
