@@ -26,5 +26,12 @@ pub mod Image
 pub mod DirectorySteps
 pub mod Answers
 pub mod Reading
+pub mod Joined
+pub mod Rewrites
+pub mod Writes
+pub mod Cuts
+pub mod Deletes
+pub mod Creates
+pub mod BytesKept
 pub mod Run
 pub mod Cases

@@ -4,7 +4,7 @@ use Prim.Native.Nat.{ℕ, zero, suc, _+_, _≤_, _<_}
 use native.Mathlib.Omega.{arith}
 use lib.ListN.{length, take, drop, set, take-append-drop}
 use lib.Seq.{sets, paste}
-use Rattle.model.specs.Bytes.{part, Bytes}
+use Rattle.model.specs.Bytes.{be16, be32, u16, u32, zeros, part, Bytes}
 use Rattle.model.specs.Facts.{blockByte}
 use Rattle.model.specs.Map.{setEntry, behind, putChain, putFree}
 use Rattle.model.specs.Calls.{bytesOf, putBlocks, putContent}
@@ -27,11 +27,37 @@ bytes [] h i = omega arith
 bytes (x ∷ l) h zero = h .0
 bytes (x ∷ l) h (suc i) = bytes l (h .1) i
 
-octets-take : (k : ℕ) (l : List ℕ) → Octets l → Octets (take k l)
+pub octets-take : (k : ℕ) (l : List ℕ) → Octets l → Octets (take k l)
 octets-take k l h = each-left (λ x. x < 256) (take k l) (drop k l) (rw (take-append-drop k l) h)
 
-octets-drop : (k : ℕ) (l : List ℕ) → Octets l → Octets (drop k l)
+pub octets-drop : (k : ℕ) (l : List ℕ) → Octets l → Octets (drop k l)
 octets-drop k l h = each-right (λ x. x < 256) (take k l) (drop k l) (rw (take-append-drop k l) h)
+
+pub octets-cons : (x : ℕ) (l : List ℕ) → x < 256 → Octets l → Octets (x ∷ l)
+unfolding Each
+octets-cons x l h k = (h, k)
+
+pub octets-append : (l m : List ℕ) → Octets l → Octets m → Octets (l ++ m)
+octets-append l m h k = each-append (λ x. x < 256) l m h k
+
+pub octets-zeros : (n : ℕ) → Octets (zeros n)
+unfolding Each
+octets-zeros zero = tt
+octets-zeros (suc n) = (omega arith, octets-zeros n)
+
+-- a number that fits is stored as bytes
+pub octets-u16 : (v : ℕ) → v < 65536 → Octets (u16 v)
+unfolding Each
+octets-u16 v h = (omega arith, (omega arith, tt))
+
+pub octets-u32 : (v : ℕ) → v < 4294967296 → Octets (u32 v)
+unfolding Each
+octets-u32 v h = (omega arith, (omega arith, (omega arith, (omega arith, tt))))
+
+-- and bytes read as one
+pub bytes-be32 : (l : List ℕ) (i : ℕ) → Bytes l → be32 l i < 4294967296
+unfolding be32 be16 Bytes
+bytes-be32 l i h = omega (arith, h i, h (i + 1), h (i + 2), h (i + 2 + 1))
 
 pub octets-paste : (l : List ℕ) (q : ℕ) (c : List ℕ) (k : ℕ) → Octets l → Octets c → Octets (paste l q c k)
 octets-paste l q c k h d =
@@ -81,3 +107,6 @@ pub bytes-sets : (l : List ℕ) (i : ℕ) (vs : List ℕ) → Bytes l → Bytes 
 unfolding Bytes
 bytes-sets l i [] h d = h
 bytes-sets l i (v ∷ vs) h d = bytes-sets (set l i v) (suc i) vs (bytes-set l i v h (d 0)) (λ j. d (suc j))
+
+pub octets-sets : (l : List ℕ) (i : ℕ) (vs : List ℕ) → Octets l → Octets vs → Octets (sets l i vs)
+octets-sets l i vs h d = octets (sets l i vs) (bytes-sets l i vs (bytes l h) (bytes vs d))

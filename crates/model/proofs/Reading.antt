@@ -168,12 +168,18 @@ file-same f g image left e s a d r = λ i. record {
   resource = record { bytes = (ap₂ (λ x y. forkBytes x y left (forkOf Resource e)) s a ∙ r) i; count = blockCount (a i) (forkOf Resource e) };
 }
 
+-- what two reads give of each fork of a list
+pub each-same : {A B : Type 0} (f g : A → B) (xs : List A) → map f xs ≡ map g xs → Each (λ x. f x ≡ g x) xs
+unfolding Each
+each-same f g [] h = tt
+each-same f g (x ∷ xs) h =
+    let p : f x ≡ g x = cc in
+    let q : map f xs ≡ map g xs = cc in
+    (p, each-same f g xs q)
+
 pub files-same : (f g : VolumeFacts) (image left : List ℕ) (es : List (List ℕ)) → S g ≡ S f → A g ≡ A f
-    → map (forkBytes (S f) (A f) left) (forksIn es) ≡ map (forkBytes (S f) (A f) image) (forksIn es) → map (fileIn g left) es ≡ map (fileIn f image) es
-unfolding forksIn
+    → Each (λ x. forkBytes (S f) (A f) left x ≡ forkBytes (S f) (A f) image x) (forksIn es) → map (fileIn g left) es ≡ map (fileIn f image) es
+unfolding forksIn Each
 files-same f g image left [] s a h = refl
 files-same f g image left (e ∷ es) s a h =
-    let d : forkBytes (S f) (A f) left (forkOf Data e) ≡ forkBytes (S f) (A f) image (forkOf Data e) = cc in
-    let r : forkBytes (S f) (A f) left (forkOf Resource e) ≡ forkBytes (S f) (A f) image (forkOf Resource e) = cc in
-    let t : map (forkBytes (S f) (A f) left) (forksIn es) ≡ map (forkBytes (S f) (A f) image) (forksIn es) = cc in
-    ap₂ (λ (x : File) (xs : List File). x ∷ xs) (file-same f g image left e s a d r) (files-same f g image left es s a t)
+    ap₂ (λ (x : File) (xs : List File). x ∷ xs) (file-same f g image left e s a (h .0) (h .1 .0)) (files-same f g image left es s a (h .1 .1))

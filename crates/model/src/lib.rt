@@ -1,6 +1,7 @@
 // The types that the definitions of MFS share with the code, and the statements that the definitions are held to.
 ghost use Rattle.model.specs.Cases.{FurtherCases, PCases};
 ghost use Rattle.model.specs.Check.{VerdictIsAccepted};
+ghost use Rattle.model.specs.History.{EveryRun};
 
 mod block_numbers;
 mod numbers;
@@ -82,4 +83,9 @@ pub fn further_cases()
 // The first check that fires is 0 exactly where the volume is accepted.
 pub fn verdict_is_accepted()
     ensures { λ _. ⌜ VerdictIsAccepted ⌝ }
+{}
+
+// Every list of calls from an accepted image keeps step with its history.
+pub fn every_run()
+    ensures { λ _. ⌜ EveryRun ⌝ }
 {}
