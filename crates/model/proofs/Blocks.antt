@@ -3,7 +3,7 @@
 use Prim.Native.Nat.{ℕ, zero, suc, _+_, _*_, _≤_}
 use mathlib.Core.Path.{_≡_, refl, ap, _∙_}
 use mathlib.Core.Bool.{Bool, true, false, not, _||_}
-use mathlib.Core.List.{List, [], _∷_, _++_, map, append-assoc}
+use mathlib.Core.List.{List, [], _∷_, _++_, map, append-assoc, map-append}
 use native.Mathlib.Omega.{arith}
 use lib.ListN.{length, take, drop, length-append, length-drop, take-append-drop}
 use lib.Seq.{take-take, length-take-le, take-at, drop-at, drop-drop}
@@ -12,8 +12,7 @@ use Rattle.model.specs.Directory.{entries, cutBlocks, listing, named}
 use Rattle.model.specs.Check.{goodEntry}
 use Rattle.model.specs.Calls.{filled, hasRoom, placed, removed, onNamed, rewritten}
 use Rattle.model.proofs.Lists.{and-true, every-append, flat-append, keep-append, middle}
-use Rattle.model.proofs.Reorder.{map-append}
-use Rattle.model.proofs.Stores.{drop-take}
+use Rattle.model.proofs.Stores.{drop-take-add}
 use Rattle.model.proofs.Block.{sound, Clean, added-reads, removed-reads, Keeps, rewritten-reads}
 
 -- ---- blocks of 512 bytes
@@ -38,7 +37,7 @@ unfolding cutBlocks
 cut-front zero c = refl
 cut-front (suc k) c =
     let n : 512 * suc k ≡ 512 + 512 * k = omega arith in
-    rw (n, take-take 512 (512 + 512 * k) c (omega arith), drop-take 512 (512 * k) c, cut-front k (drop 512 c))
+    rw (n, take-take 512 (512 + 512 * k) c (omega arith), drop-take-add 512 (512 * k) c, cut-front k (drop 512 c))
 
 pub cut-flat : (k : ℕ) (c : List ℕ) → 512 * k ≤ length c → flat (cutBlocks k c) ++ drop (512 * k) c ≡ c
 unfolding flat cutBlocks

@@ -14,7 +14,8 @@ use Rattle.model.specs.Facts.{blockByte}
 use Rattle.model.specs.Calls.{bytesOf, putBlocks, putContent, fewest}
 use Rattle.model.specs.History.{overwritten}
 use Rattle.model.proofs.Times.{times-head, times-tail}
-use Rattle.model.proofs.Entries.{Clear, half-same}
+use Rattle.model.proofs.Entries.{Clear}
+use Rattle.model.proofs.Stores.{half-same}
 use Rattle.model.proofs.Joins.{other}
 
 -- ---- parts
@@ -81,24 +82,6 @@ clear-byte q k h (inr x) = inr (omega arith)
 
 same-half : (x y : List ℕ) (h : ℕ) → part (h / 2) 1 x ≡ part (h / 2) 1 y → half x h ≡ half y h
 same-half x y h e = half-same x y h (same-byte (h / 2) 1 (h / 2) x y e (omega arith) (omega arith))
-
--- no half-byte changes but those of the part that is stored
-pub half-paste : (l : List ℕ) (q : ℕ) (c : List ℕ) (k : ℕ) → q + k ≤ length l → k ≤ length c → (h : ℕ) → Clear (2 * q) (2 * q + 2 * k) h
-    → half (paste l q c k) h ≡ half l h
-half-paste l q c k fits enough h e = same-half (paste l q c k) l h (part-clear l q c k fits enough (h / 2) 1 (clear-byte q k h e))
-
-pub half-sets : (l : List ℕ) (i : ℕ) (vs : List ℕ) (h : ℕ) → Clear (2 * i) (2 * i + 2 * length vs) h → half (sets l i vs) h ≡ half l h
-half-sets l i [] h e = refl
-half-sets l i (v ∷ vs) h e =
-    half-sets (set l i v) (suc i) vs h (rest e) ∙ half-same (set l i v) l h (getD-set-other l i (h / 2) v 0 (one e))
-  where
-    rest : Clear (2 * i) (2 * i + 2 * suc (length vs)) h → Clear (2 * suc i) (2 * suc i + 2 * length vs) h
-    rest (inl x) = inl (omega arith)
-    rest (inr x) = inr (omega arith)
-
-    one : Clear (2 * i) (2 * i + 2 * suc (length vs)) h → h / 2 ≢ i
-    one (inl x) = omega arith
-    one (inr x) = omega arith
 
 -- ---- the bytes of blocks
 

@@ -2,7 +2,7 @@
 use Prim.Native.Nat.{ℕ, zero, suc, _+_, _-_, _*_, _≤_, _<_}
 use mathlib.Core.Path.{_≡_, refl, sym, ap, ap₂, subst, _∙_}
 use mathlib.Core.Bool.{Bool, true, false}
-use mathlib.Core.List.{List, [], _∷_, _++_, map}
+use mathlib.Core.List.{List, [], _∷_, _++_, map, map-append}
 use native.Mathlib.Omega.{arith}
 use lib.ListN.{length}
 use Rattle.model.specs.Lists.{any, times, Reordered}
@@ -17,7 +17,7 @@ use Rattle.model.specs.declared.VolumeFacts.{VolumeFacts}
 use Rattle.model.specs.declared.ForkFacts.{ForkFacts}
 use Rattle.model.specs.declared.Fork.{Fork}
 use Rattle.model.specs.declared.Fork.the-variants.{Data, Resource}
-use Rattle.model.proofs.Reorder.{map-append, after-create}
+use Rattle.model.proofs.Reorder.{after-create}
 use Rattle.model.proofs.MapChecks.{MapPasses}
 use Rattle.model.proofs.Alike.{Alike, alike-trans}
 use Rattle.model.proofs.MapSteps.{blankFork, Framed, Changed, create-changed, blank-bytes, blank-count}

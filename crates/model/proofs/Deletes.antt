@@ -2,7 +2,7 @@
 use Prim.Native.Nat.{ℕ, zero, suc, _+_, _-_, _*_, _≤_, _<_}
 use mathlib.Core.Path.{_≡_, refl, sym, ap, ap₂, subst, _∙_}
 use mathlib.Core.Bool.{Bool, true, false, not}
-use mathlib.Core.List.{List, [], _∷_, _++_, map}
+use mathlib.Core.List.{List, [], _∷_, _++_, map, map-append}
 use native.Mathlib.Omega.{arith}
 use lib.ListN.{length}
 use Rattle.model.specs.Lists.{any, keep, times, Reordered}
@@ -16,7 +16,7 @@ use Rattle.model.specs.History.{File, History, heldIn, fileIn, filesIn, 
 use Rattle.model.specs.declared.VolumeFacts.{VolumeFacts}
 use Rattle.model.specs.declared.ForkFacts.{ForkFacts}
 use Rattle.model.specs.declared.Fork.the-variants.{Data, Resource}
-use Rattle.model.proofs.Reorder.{Alone, map-append, after-delete}
+use Rattle.model.proofs.Reorder.{Alone, after-delete}
 use Rattle.model.proofs.Times.{times-append}
 use Rattle.model.proofs.MapChecks.{MapPasses}
 use Rattle.model.proofs.Alike.{Alike, alike-trans}

@@ -9,6 +9,7 @@ use lib.ListN.{length, getD, set, take, drop, length-set}
 use lib.Seq.{getD-set-same, getD-set-other, set-out, take-set-le, drop-set-lt}
 use Rattle.model.specs.Bytes.{byte, half, Bytes}
 use Rattle.model.specs.Map.{entryByte, joined, firstByte, secondByte, mapEntry, setEntry}
+use Rattle.model.proofs.Stores.{half-same}
 
 -- ---- two bytes
 
@@ -169,10 +170,6 @@ Clear x y h = (h < x) ⊎ (y ≤ h)
 
 pub clear : (x y h : ℕ) → (x ≤ h → h < y → ⊥) → Clear x y h
 clear x y h c = elim (decLt h x) [ yes p ↦ inl p | no p ↦ elim (decLt h y) [ yes q ↦ absurd (c (omega arith) q) | no q ↦ inr (omega arith) ] ]
-
-pub half-same : (l m : List ℕ) (h : ℕ) → byte l (h / 2) ≡ byte m (h / 2) → half l h ≡ half m h
-unfolding half
-half-same l m h e = rw e
 
 half-high : (l m : List ℕ) (h : ℕ) → h % 2 ≡ 0 → byte l (h / 2) / 16 ≡ byte m (h / 2) / 16 → half l h ≡ half m h
 unfolding half

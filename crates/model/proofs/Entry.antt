@@ -14,7 +14,7 @@ use Rattle.model.specs.Check.{goodEntry}
 use Rattle.model.specs.Calls.{newEntry, withFork}
 use Rattle.model.specs.declared.Fork.{Fork}
 use Rattle.model.specs.declared.Fork.the-variants.{Data, Resource}
-use Rattle.model.proofs.Stores.{sets-before, sets-behind, sets-in, drop-sets, take-sets, join16, join32, be32-same, be32-sets, getD-past, drop-past, drop-take}
+use Rattle.model.proofs.Stores.{sets-before, sets-behind, sets-in, drop-sets, take-sets, join16, join32, be32-same, be32-sets, getD-past, drop-past, drop-take-add}
 use Rattle.model.proofs.Block.{sound, Keeps}
 
 -- ---- a new entry
@@ -161,9 +161,9 @@ module _ (fork : Fork) (a logical : ℕ) (bs : List ℕ) (changed : ℕ) where
   pub fork-finder : (e : List ℕ) → finderIn (stored e) ≡ finderIn e
   unfolding finderIn withFork
   fork-finder e =
-      sym (drop-take 2 16 (stored e))
+      sym (drop-take-add 2 16 (stored e))
       ∙ ap (drop 2) (take-sets (u32 changed) (sets e (forkPlace fork) fields) 46 18 (omega arith) ∙ take-sets fields e (forkPlace fork) 18 (omega (arith, place-low fork)))
-      ∙ drop-take 2 16 e
+      ∙ drop-take-add 2 16 e
 
   pub fork-created : (e : List ℕ) → be32 (stored e) 42 ≡ be32 e 42
   fork-created e = be32-same (stored e) e 42 (λ j l h. fork-between e j l (omega arith))

@@ -3,7 +3,7 @@
 use Prim.Native.Nat.{ℕ, suc, _+_, _-_, _≤_}
 use mathlib.Core.Path.{_≡_, refl, sym, ap, _∙_}
 use mathlib.Core.Bool.{Bool, true, false, _||_}
-use mathlib.Core.List.{List, [], _∷_, _++_, map, append-assoc, append-nil}
+use mathlib.Core.List.{List, [], _∷_, _++_, map, append-assoc, append-nil, map-append}
 use native.Mathlib.Omega.{arith}
 use native.Mathlib.Nat.{zero-add, suc-add, add-suc}
 use lib.ListN.{length, take, drop, set, length-append, length-set}
@@ -14,7 +14,7 @@ use Rattle.model.specs.Directory.{entries, readEnd, listing, named}
 use Rattle.model.specs.Check.{sameNames}
 use Rattle.model.specs.Calls.{filled, hasRoom, placed, removedIn, removed, onNamed, rewrittenIn, rewritten}
 use Rattle.model.proofs.Lists.{or-false, any-append, flat-append}
-use Rattle.model.proofs.Reorder.{any-split, map-none, none-behind, map-append}
+use Rattle.model.proofs.Reorder.{any-split, map-none, none-behind}
 use Rattle.model.proofs.Block.{sound, Clean, rest, split, used-within, added-reads, removed-reads, Keeps, rewritten-reads}
 use Rattle.model.proofs.Blocks.{Cleans, clean-parts, listing-append}
 use Rattle.model.proofs.Kept.{both-named, on-other}

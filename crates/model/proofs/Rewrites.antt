@@ -2,7 +2,7 @@
 use Prim.Native.Nat.{ℕ, zero, suc, _+_, _-_, _*_, _≤_, _<_}
 use mathlib.Core.Path.{_≡_, refl, sym, ap, ap₂, subst, _∙_}
 use mathlib.Core.Bool.{Bool, true, false}
-use mathlib.Core.List.{List, [], _∷_, _++_, map, append-assoc}
+use mathlib.Core.List.{List, [], _∷_, _++_, map, append-assoc, map-append}
 use native.Mathlib.Omega.{arith}
 use lib.ListN.{length, getD}
 use borrow.Author.Tests.{not-false}
@@ -19,7 +19,7 @@ use Rattle.model.specs.declared.ForkFacts.{ForkFacts}
 use Rattle.model.specs.declared.Fork.{Fork}
 use Rattle.model.specs.declared.Fork.the-variants.{Data, Resource}
 use Rattle.model.proofs.Lists.{and-true, every-append}
-use Rattle.model.proofs.Reorder.{Alone, map-append, after-change}
+use Rattle.model.proofs.Reorder.{Alone, after-change}
 use Rattle.model.proofs.Sound.{Each, each-left, each-right}
 use Rattle.model.proofs.MapChecks.{MapPasses}
 use Rattle.model.proofs.MapSteps.{forkWith, Changed}

@@ -137,7 +137,7 @@ getD-past xs ys n k e = rw (← e) (getD-append-add xs ys k 0)
 pub drop-past : (xs ys : List ℕ) (n k : ℕ) → length xs ≡ n → drop (n + k) (xs ++ ys) ≡ drop k ys
 drop-past xs ys n k e = rw (← e) (drop-append-add xs ys k)
 
-pub drop-take : (n m : ℕ) (l : List ℕ) → drop n (take (n + m) l) ≡ take m (drop n l)
-drop-take zero m l = rw zero-add
-drop-take (suc n) m [] = rw (suc-add, take-nil m)
-drop-take (suc n) m (x ∷ l) = rw suc-add (drop-take n m l)
+pub drop-take-add : (n m : ℕ) (l : List ℕ) → drop n (take (n + m) l) ≡ take m (drop n l)
+drop-take-add zero m l = rw zero-add
+drop-take-add (suc n) m [] = rw (suc-add, take-nil m)
+drop-take-add (suc n) m (x ∷ l) = rw suc-add (drop-take-add n m l)

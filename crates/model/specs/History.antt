@@ -125,27 +125,26 @@ writes a o xs g = record {
 unfoldable pub cuts : ℕ → ℕ → Held → Held
 cuts a n g = record { bytes = take n (g .bytes); count = fewest n a }
 
+-- f of the data fork, or of the resource fork, where that is the one given
+abbrev pub ofData : Fork → (Held → Held) → Held → Held
+ofData Data f g = f g
+ofData Resource f g = g
+
+abbrev pub ofResource : Fork → (Held → Held) → Held → Held
+ofResource Data f g = g
+ofResource Resource f g = f g
+
 -- Both set the change date.
 unfoldable pub changedFork : Fork → (Held → Held) → ℕ → File → File
-changedFork Data f date x = record {
+changedFork fork f date x = record {
   number = x .number;
   name = x .name;
   flags = x .flags;
   finder = x .finder;
   created = x .created;
   changed = date;
-  content = f (x .content);
-  resource = x .resource;
-}
-changedFork Resource f date x = record {
-  number = x .number;
-  name = x .name;
-  flags = x .flags;
-  finder = x .finder;
-  created = x .created;
-  changed = date;
-  content = x .content;
-  resource = f (x .resource);
+  content = ofData fork f (x .content);
+  resource = ofResource fork f (x .resource);
 }
 
 unfoldable pub onCalled : List ℕ → (File → File) → File → File
