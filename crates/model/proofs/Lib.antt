@@ -24,6 +24,7 @@ pub mod Kept
 pub mod Places
 pub mod Image
 pub mod DirectorySteps
+pub mod Calls
 pub mod Answers
 pub mod Reading
 pub mod Joined
