@@ -35,4 +35,5 @@ pub mod Deletes
 pub mod Creates
 pub mod BytesKept
 pub mod Run
+pub mod Corollaries
 pub mod Cases
