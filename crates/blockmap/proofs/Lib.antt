@@ -1,0 +1,5 @@
+pub mod Bits
+pub mod Ranges
+pub mod Chains
+pub mod Walks
+pub mod Marks

@@ -1,0 +1,14 @@
+// The allocation block map of an image: its entries, the checks over all of them, chains and the forks that claim them.
+mod chain;
+mod packed;
+mod scan;
+
+pub use chain::block_at;
+pub use chain::claim_fork;
+pub use chain::walk;
+pub use packed::load;
+pub use packed::store;
+pub use scan::any_bad;
+pub use scan::any_unowned;
+pub use scan::count_free;
+pub use scan::sort_value;
