@@ -1,0 +1,77 @@
+-- `Cursor::next` meets its contract. The loop's invariant: the entries from c on are those from the given cursor on. The measure
+-- is the number of blocks left. Assumes nothing.
+use Prim.Native.Nat.{_-_, _≤_}
+use mathlib.Core.Path.{_≡_, refl, sym, _∙_}
+use native.Mathlib.Omega.{arith}
+use mathlib.Core.Bool.{true}
+use denote.Ref.{now}
+use Rattle.model.specs.Directory.{endsAt}
+use Rattle.directory.specs.Cursor.{blockOf, restOf, Fits, ahead}
+use Rattle.directory.proofs.Steps.{last-block, next-block, stepped-from}
+use Rattle.directory.proofs.Cursor.next.Statement.{statement}
+use Rattle.directory.proofs.Cursor.next.Tie as tie
+use Rattle.directory.proofs.Cursor.ends.Reads as ends-reads
+use Rattle.directory.proofs.Cursor.entry.Reads as entry-reads
+
+abbrev Inv-loop : tie.InvT-loop
+Inv-loop image c₀ c = Fits image c × (restOf image c₀ ≡ restOf image c) × (ahead c ≤ ahead c₀)
+
+abbrev μ-loop : tie.MeasureT-loop
+μ-loop image c₀ c = c .left
+
+-- where the block's reading ends at c
+ended : (c : tie.Then1 Inv-loop μ-loop) → endsAt (blockOf (now (c .before .before .before .before .args .image)) (c .before .before .loop .c)) (c .before .before .loop .c .at) ≡ true
+ended c = sym (c .before .ends .ensures) ∙ c .if1 .taken
+
+loop-holds : tie.Need-loop-holds Inv-loop μ-loop
+loop-holds c = (c .before .pre, refl, omega arith)
+
+ends-requires : tie.Need-ends-requires Inv-loop μ-loop
+ends-requires c κs = c .loop .inv .0
+
+returns : tie.Need-returns Inv-loop μ-loop
+returns c =
+    let b = c .before .before in
+    let l = b .before .before .loop in
+    l .inv .1 ∙ last-block (now (b .before .before .before .before .args .image)) (l .c) (l .inv .0) (ended b) (c .if2 .taken)
+
+add-t6 : tie.Need-add-t6 Inv-loop μ-loop
+add-t6 c = omega arith
+
+sub-t7 : tie.Need-sub-t7 Inv-loop μ-loop
+sub-t7 c = omega arith
+
+loop-less : tie.Need-loop-less Inv-loop μ-loop
+loop-less c = omega arith
+
+loop-again : tie.Need-loop-again Inv-loop μ-loop
+loop-again c =
+    let b = c .before .before .before .before in
+    let l = b .before .before .loop in
+    let next = next-block (now (b .before .before .before .before .args .image)) (l .c) (l .inv .0) (ended b) (c .before .before .if2 .left) in
+    (record { blocks = omega arith; place = omega arith }, l .inv .1 ∙ next, omega arith)
+
+entry-requires : tie.Need-entry-requires Inv-loop μ-loop
+entry-requires c κs = (c .before .before .loop .inv .0, sym (c .before .ends .ensures) ∙ c .if1 .left)
+
+returns-2 : tie.Need-returns-2 Inv-loop μ-loop
+returns-2 c =
+    let l = c .before .before .before .loop in
+    let a = c .before .before .before .before .before .args in
+    stepped-from (now (a .image)) (l .c) (a .self) (l .inv .1) (l .inv .2) (c .entry .result) (c .entry .ensures)
+
+pub next-spec : {M : Type 1} → statement M
+next-spec =
+    tie.close
+    (tie.spec
+    Inv-loop
+    μ-loop
+    loop-holds
+    ends-requires
+    returns
+    add-t6
+    sub-t7
+    loop-less
+    loop-again
+    entry-requires
+    returns-2)

@@ -1,0 +1,5 @@
+pub mod Steps
+pub mod Same
+pub mod Parts
+pub mod Each
+pub mod Whole

@@ -1,0 +1,34 @@
+-- `find` meets its contract. Assumes nothing.
+use denote.Ref.{now}
+use Rattle.volume.proofs.Octets.{octets}
+use Rattle.volume.proofs.Checked.{checked, unchecked}
+use Rattle.volume.proofs.Replies.{find-stopped}
+use borrow.Author.Needs.{needs}
+use Rattle.volume.proofs.reading.find.Statement.{statement}
+use Rattle.volume.proofs.reading.find.Tie as tie
+
+check-requires : tie.Need-check-requires
+check-requires c κs = search needs
+
+no-entry-requires : tie.Need-no-entry-requires
+no-entry-requires c κs = search needs
+
+returns : tie.Need-returns
+returns c =
+    let k = c .before .before in
+    let a = k .before .before .before .args in
+    let v = unchecked (now (a .image)) (k .check .result) (now (a .image)) (k .check .ensures) (c .before .if1 .taken) in
+    find-stopped (k .check .ensures .bytes) v (c .before .if1 .taken) (now (a .name)) (c .no-entry .result) (octets _ (k .before .shared-slice-known2 .given)) (c .no-entry .ensures)
+
+serve-find-requires : tie.Need-serve-find-requires
+serve-find-requires c κs =
+    let k = c .before in
+    let image = now (k .before .before .before .args .image) in
+    checked image (k .check .result) image (k .check .ensures) (c .if1 .left)
+
+returns-2 : tie.Need-returns-2
+returns-2 c = c .serve-find .ensures
+
+pub find-spec : {M : Type 1} → statement M
+find-spec =
+    tie.close (tie.spec check-requires no-entry-requires returns serve-find-requires returns-2)

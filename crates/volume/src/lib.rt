@@ -1,0 +1,50 @@
+// The calls on a volume. Each checks the image itself, and states its answer and every byte that it leaves.
+mod answers;
+mod content;
+mod lookup;
+mod reading;
+mod serving;
+mod verdict;
+
+use directory::EntryAt;
+use model::AllocationBlock;
+use model::DirectoryEntry;
+use model::VolumeFacts;
+pub use reading::block;
+pub use reading::entry;
+pub use reading::find;
+pub use reading::read;
+pub use verdict::check;
+
+// Each answer begins with its number: 0, or that of the refusal, and then all else is zero.
+pub struct CheckAnswer {
+    pub number: u8,
+    pub facts: VolumeFacts,
+}
+
+pub struct EntryAnswer {
+    pub number: u8,
+    pub entry: DirectoryEntry,
+}
+
+pub struct FindAnswer {
+    pub number: u8,
+    pub place: u64,
+    pub entry: DirectoryEntry,
+}
+
+pub struct BlockAnswer {
+    pub number: u8,
+    pub block: AllocationBlock,
+}
+
+pub struct ReadAnswer {
+    pub number: u8,
+    pub count: usize,
+}
+
+// What a name given to a call names: an entry with its place in directory order, or the number of the refusal.
+pub enum Named {
+    At(usize, EntryAt),
+    Refused(u8),
+}
