@@ -1,0 +1,120 @@
+// The records of the calls: each reads its fields, makes the call and prints its line. False ends the run.
+ghost use mathlib.Core.Path.{_≡_};
+ghost use lib.ListN.{length};
+use crate::input;
+use crate::input::Field;
+use crate::input::ForkField;
+use crate::line;
+use model::Fork;
+
+// The most bytes of a read's buffer.
+const MOST_READ: usize = 65_535;
+
+// A read's buffer before the call. Only the length is known of it.
+fn unread() -> [u8; MOST_READ]
+    ensures { λ r. ⌜ 65535 ≡ length r ⌝ }
+{
+    [0xee; MOST_READ]
+}
+
+pub fn check(image: &[u8]) -> bool {
+    let answer = volume::check(image);
+    let mut line = text::empty();
+    let mut at = line::start(&mut line, b'C', answer.number);
+    if answer.number == 0 {
+        at = line::put_facts(&mut line, at, answer.facts);
+    }
+    line::end(&mut line, at, image);
+    true
+}
+
+pub fn entry(image: &[u8]) -> bool {
+    let Field::Is(place) = input::number64() else {
+        return false;
+    };
+    let answer = volume::entry(image, place);
+    let mut line = text::empty();
+    let mut at = line::start(&mut line, b'E', answer.number);
+    if answer.number == 0 {
+        at = line::put_entry(&mut line, at, answer.entry);
+    }
+    line::end(&mut line, at, image);
+    true
+}
+
+pub fn find(image: &[u8]) -> bool {
+    let mut name = input::name_space();
+    let Field::Is(length) = input::name(&mut name) else {
+        return false;
+    };
+    let answer = volume::find(image, text::first(&name, length as usize));
+    let mut line = text::empty();
+    let mut at = line::start(&mut line, b'F', answer.number);
+    if answer.number == 0 {
+        at = line::put_number(&mut line, at, answer.place);
+        at = line::put_entry(&mut line, at, answer.entry);
+    }
+    line::end(&mut line, at, image);
+    true
+}
+
+pub fn block(image: &[u8]) -> bool {
+    let mut name = input::name_space();
+    let Field::Is(length) = input::name(&mut name) else {
+        return false;
+    };
+    let ForkField::Is(fork) = input::fork() else {
+        return false;
+    };
+    let Field::Is(place) = input::number64() else {
+        return false;
+    };
+    let answer = volume::block(image, text::first(&name, length as usize), fork, place);
+    let mut line = text::empty();
+    let mut at = line::start(&mut line, b'B', answer.number);
+    if answer.number == 0 {
+        at = line::put_number(&mut line, at, answer.block.0 as u64);
+    }
+    line::end(&mut line, at, image);
+    true
+}
+
+// Reads into the buffer, and prints the line.
+fn read_into(image: &[u8], name: &[u8], fork: Fork, offset: u64, buffer: &mut [u8]) {
+    let answer = volume::read(image, name, fork, offset, buffer);
+    let mut line = text::empty();
+    let mut at = line::start(&mut line, b'R', answer.number);
+    at = line::put_number(&mut line, at, answer.count as u64);
+    at = line::put_number(&mut line, at, line::sum(buffer));
+    line::end(&mut line, at, image);
+}
+
+pub fn read(image: &[u8]) -> bool {
+    let mut name = input::name_space();
+    let Field::Is(length) = input::name(&mut name) else {
+        return false;
+    };
+    let ForkField::Is(fork) = input::fork() else {
+        return false;
+    };
+    let Field::Is(offset) = input::number64() else {
+        return false;
+    };
+    let Field::Is(most) = input::number32() else {
+        return false;
+    };
+    let n = most as usize;
+    let mut buffer = unread();
+    if buffer.len() < n {
+        input::too_long();
+        return false;
+    }
+    read_into(
+        image,
+        text::first(&name, length as usize),
+        fork,
+        offset,
+        &mut buffer[0..n],
+    );
+    true
+}

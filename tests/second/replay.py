@@ -1,0 +1,280 @@
+"""The replay program's records and lines, both ways.
+
+The functions image(), check(), ... build one record each.  A Machine carries
+records out by volume.py and keeps the lines that are expected for them.
+"""
+
+from collections import Counter
+import struct
+import sys
+
+import volume
+
+IMAGE_ROOM = 419328
+WRITE_ROOM = 65535
+READ_ROOM = 65535
+NAME_ROOM = 1024
+
+
+# Records
+
+def u16(value):
+    return struct.pack('>H', value)
+
+
+def u32(value):
+    return struct.pack('>I', value)
+
+
+def u64(value):
+    return struct.pack('>Q', value)
+
+
+def name_field(name):
+    return u16(len(name)) + bytes(name)
+
+
+def bytes_field(data):
+    return u32(len(data)) + bytes(data)
+
+
+def image(data):
+    return b'I' + bytes_field(data)
+
+
+def check():
+    return b'C'
+
+
+def entry(place):
+    return b'E' + u64(place)
+
+
+def find(name):
+    return b'F' + name_field(name)
+
+
+def block(name, fork, place):
+    return b'B' + name_field(name) + bytes([fork]) + u64(place)
+
+
+def read(name, fork, offset, length):
+    return (b'R' + name_field(name) + bytes([fork]) + u64(offset)
+            + u32(length))
+
+
+def create(name, finder, created, changed):
+    return b'N' + name_field(name) + bytes(finder) + u32(created) + u32(changed)
+
+
+def write(name, fork, offset, data, changed):
+    return (b'W' + name_field(name) + bytes([fork]) + u64(offset)
+            + bytes_field(data) + u32(changed))
+
+
+def cut(name, fork, length, changed):
+    return (b'U' + name_field(name) + bytes([fork]) + u64(length)
+            + u32(changed))
+
+
+def delete(name):
+    return b'D' + name_field(name)
+
+
+RECORDS = {'I': image, 'C': check, 'E': entry, 'F': find, 'B': block,
+           'R': read, 'N': create, 'W': write, 'U': cut, 'D': delete}
+
+
+def record(call):
+    """The record of a call given as a tuple: its letter and its arguments."""
+    return RECORDS[call[0]](*call[1:])
+
+
+# Lines
+
+PIECE = 512
+piece_sums = {}                 # sums of runs seen before, for speed
+
+
+def piece_sum(piece):
+    s = 0
+    for byte in piece:
+        s = (31 * s + byte) & 0xFFFFFFFF
+    return s
+
+
+def total(data):
+    """SUM: from 0, for each byte s becomes (31 s + byte) mod 2^32.  It goes
+    by runs of 512 bytes: a run of n bytes turns s into 31^n s + its own sum.
+    """
+    data = bytes(data)
+    s = 0
+    for at in range(0, len(data), PIECE):
+        piece = data[at:at + PIECE]
+        own = piece_sums.get(piece)
+        if own is None:
+            own = piece_sums[piece] = piece_sum(piece)
+        s = (s * pow(31, len(piece), 1 << 32) + own) & 0xFFFFFFFF
+    return s
+
+
+def facts_text(facts):
+    numbers = ' '.join(str(value) for value in facts[:-1])
+    return numbers + ' ' + (facts.name.hex() or '-')
+
+
+def entry_text(entry):
+    data, resource = entry.forks
+    return '%d %s %d %d %d %d %d %d %d %d %d %s' % (
+        entry.flags, entry.finder.hex(), entry.number,
+        data.start, data.logical, data.physical,
+        resource.start, resource.logical, resource.physical,
+        entry.created, entry.changed, entry.name.hex())
+
+
+class BadRecord(Exception):
+    pass
+
+
+class TooLong(Exception):
+    pass
+
+
+class Fields:
+    """Takes fields from a run of bytes, one after another."""
+
+    def __init__(self, data):
+        self.data = data
+        self.at = 0
+
+    def more(self):
+        return self.at < len(self.data)
+
+    def take(self, count):
+        if self.at + count > len(self.data):
+            raise BadRecord
+        part = self.data[self.at:self.at + count]
+        self.at += count
+        return part
+
+    def number(self, size):
+        return int.from_bytes(self.take(size), 'big')
+
+    def long(self, size, room):
+        """A length, judged as soon as it is read."""
+        length = self.number(size)
+        if length > room:
+            raise TooLong
+        return length
+
+    def name(self):
+        return self.take(self.long(2, NAME_ROOM))
+
+    def bytes(self, room):
+        return self.take(self.long(4, room))
+
+    def fork(self):
+        fork = self.number(1)
+        if fork > 1:
+            raise BadRecord
+        return fork
+
+
+class Machine:
+    """Holds the image from record to record, the lines so far, and how often
+    each call gave each number."""
+
+    def __init__(self):
+        self.image = bytearray()
+        self.lines = []
+        self.counts = Counter()
+        self.image_sum = 0
+
+    def line(self, tag, number, *texts):
+        self.counts[tag, number] += 1
+        if tag in 'NWUD' and number == 0:
+            self.image_sum = total(self.image)
+        words = [tag, str(number), *texts, str(self.image_sum)]
+        self.lines.append(' '.join(words) + '\n')
+        return number
+
+    def run(self, data):
+        """Carries out all records; gives False where the run ends early."""
+        fields = Fields(data)
+        try:
+            while fields.more():
+                self.one(fields)
+        except BadRecord:
+            self.lines.append('bad record\n')
+            return False
+        except TooLong:
+            self.lines.append('too long\n')
+            return False
+        return True
+
+    def one(self, fields):
+        tag = chr(fields.number(1))
+        if tag == 'I':
+            self.image = bytearray(fields.bytes(IMAGE_ROOM))
+            self.image_sum = total(self.image)
+        elif tag == 'C':
+            number, facts = volume.check(self.image)
+            self.line('C', number, *[facts_text(facts)] * (number == 0))
+        elif tag == 'E':
+            place = fields.number(8)
+            number, found = volume.entry(self.image, place)
+            self.line('E', number, *[entry_text(found)] * (number == 0))
+        elif tag == 'F':
+            name = fields.name()
+            number, place, found = volume.find(self.image, name)
+            if number:
+                self.line('F', number)
+            else:
+                self.line('F', 0, str(place), entry_text(found))
+        elif tag == 'B':
+            name, fork = fields.name(), fields.fork()
+            place = fields.number(8)
+            number, b = volume.block(self.image, name, fork, place)
+            self.line('B', number, *[str(b)] * (number == 0))
+        elif tag == 'R':
+            name, fork = fields.name(), fields.fork()
+            offset = fields.number(8)
+            buffer = bytearray(b'\xEE' * fields.long(4, READ_ROOM))
+            number, count = volume.read(self.image, name, fork, offset, buffer)
+            self.line('R', number, str(count), str(total(buffer)))
+        elif tag == 'N':
+            name, finder = fields.name(), fields.take(16)
+            created, changed = fields.number(4), fields.number(4)
+            self.line('N', volume.create(self.image, name, finder, created,
+                                         changed))
+        elif tag == 'W':
+            name, fork = fields.name(), fields.fork()
+            offset = fields.number(8)
+            data = fields.bytes(WRITE_ROOM)
+            changed = fields.number(4)
+            self.line('W', volume.write(self.image, name, fork, offset, data,
+                                        changed))
+        elif tag == 'U':
+            name, fork = fields.name(), fields.fork()
+            length = fields.number(8)
+            changed = fields.number(4)
+            self.line('U', volume.cut(self.image, name, fork, length, changed))
+        elif tag == 'D':
+            name = fields.name()
+            self.line('D', volume.delete(self.image, name))
+        else:
+            raise BadRecord
+
+    def output(self):
+        return ''.join(self.lines).encode('ascii')
+
+
+def replay(data):
+    """The bytes that the program prints for these input bytes."""
+    machine = Machine()
+    machine.run(data)
+    return machine.output()
+
+
+if __name__ == '__main__':
+    sys.stdout.buffer.write(replay(sys.stdin.buffer.read()))

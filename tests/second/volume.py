@@ -1,0 +1,460 @@
+"""The nine calls on a volume image, straight from the rules of document 01.
+
+The image is a bytearray.  Each call gives the number first: 0, or the number
+of the refusal.  A refusal changes no byte and its other results are zero.
+
+    check(image)                                       number, Facts
+    entry(image, place)                                number, Entry
+    find(image, name)                                  number, place, Entry
+    block(image, name, fork, place)                    number, block
+    read(image, name, fork, offset, buffer)            number, count
+    create(image, name, finder, created, changed)      number
+    write(image, name, fork, offset, data, changed)    number
+    cut(image, name, fork, length, changed)            number
+    delete(image, name)                                number
+"""
+
+from collections import namedtuple
+import struct
+
+DATA, RESOURCE = 0, 1
+
+LOGICAL_BLOCK = 512
+INFO_AT = 1024
+MAP_AT = 1088
+ENTRY_HEAD = 51             # bytes of an entry before the name's first byte
+LAST_NUMBER = 4294967295
+
+Facts = namedtuple('Facts', (
+    'created', 'backup', 'attributes', 'files', 'dir_start', 'dir_length',
+    'blocks', 'block_size', 'clump', 'area', 'next_number', 'free', 'name'))
+
+Entry = namedtuple('Entry', (
+    'flags', 'finder', 'number', 'forks', 'created', 'changed', 'name'))
+
+Fork = namedtuple('Fork', ('start', 'logical', 'physical'))
+
+NO_FORK = Fork(0, 0, 0)
+NO_FACTS = Facts(0, 0, 0, 0, 0, 0, 0, 0, 0, 0, 0, 0, b'')
+NO_ENTRY = Entry(0, bytes(16), 0, (NO_FORK, NO_FORK), 0, 0, b'')
+
+INFO = struct.Struct('>HIIHHHHHIIHIH')          # the 36 bytes before the name
+HEAD = struct.Struct('>BB16sIHIIHIIIIB')        # the 51 bytes before the name
+FORK = struct.Struct('>HII')
+FORK_AT = (22, 32)
+CHANGED_AT = 46
+
+# a to z become A to Z, every other byte stays
+FOLD = bytes(b - 32 if 0x61 <= b <= 0x7A else b for b in range(256))
+
+
+def fold(name):
+    return bytes(name).translate(FOLD)
+
+
+class Refused(Exception):
+    def __init__(self, number):
+        super().__init__(number)
+        self.number = number
+
+
+def even(size):
+    return size + size % 2
+
+
+def blocks_for(length, block_size):
+    """The fewest blocks that hold this many bytes."""
+    return -(-length // block_size)
+
+
+def split_map(raw):
+    """The 12-bit entries of a run of map bytes, three bytes for each pair."""
+    entries = []
+    for i in range(0, len(raw), 3):
+        x, y, z = raw[i], raw[i + 1], raw[i + 2]
+        entries.append(x << 4 | y >> 4)
+        entries.append((y & 15) << 8 | z)
+    return entries
+
+
+class Placed:
+    """An entry, the byte where it starts, its size, which directory block
+    holds it, and the blocks of its two forks."""
+
+    def __init__(self, entry, at, size, dir_block):
+        self.entry = entry
+        self.at = at
+        self.size = size
+        self.dir_block = dir_block
+        self.chains = [[], []]
+
+
+class Volume:
+    """All that the checks 1 to 10 read.  Raises Refused at the first check
+    that fires."""
+
+    def __init__(self, image):
+        self.image = image
+        self.read_facts()
+        self.read_map()
+        self.read_directory()
+        self.check_files()
+        self.walk_forks()
+
+    # checks 1 to 4
+
+    def read_facts(self):
+        image = self.image
+        if len(image) % LOGICAL_BLOCK:
+            raise Refused(1)
+        image_blocks = len(image) // LOGICAL_BLOCK
+        if not 8 <= image_blocks <= 65535:
+            raise Refused(1)
+        (signature, created, backup, attributes, files, dir_start, dir_length,
+         n, a, clump, s, next_number, free) = INFO.unpack_from(image, INFO_AT)
+        if signature != 0xD2D7:
+            raise Refused(2)
+        if a % 512 or not 512 <= a <= 32768:
+            raise Refused(3)
+        if not 1 <= n <= 640:
+            raise Refused(3)
+        if not 1 <= dir_length <= 256 or dir_start < 4:
+            raise Refused(3)
+        if dir_start + dir_length > s:
+            raise Refused(3)
+        if s + n * (a // 512) > image_blocks - 2:
+            raise Refused(3)
+        if next_number == 0:
+            raise Refused(3)
+        name_length = image[INFO_AT + 36]
+        if name_length > 27:
+            raise Refused(4)
+        name = bytes(image[INFO_AT + 37:INFO_AT + 37 + name_length])
+        self.facts = Facts(created, backup, attributes, files, dir_start,
+                           dir_length, n, a, clump, s, next_number, free, name)
+
+    # check 5
+
+    def read_map(self):
+        """self.map[b] is the entry of allocation block b; the places 0 and 1
+        stand for no block."""
+        n = self.facts.blocks
+        pairs = (n + 1) // 2
+        entries = [0, 0] + split_map(self.image[MAP_AT:MAP_AT + 3 * pairs])
+        del entries[n + 2:]                     # dead space where n is odd
+        if max(entries) > n + 1:
+            raise Refused(5)
+        self.map = entries
+
+    # check 6
+
+    def read_directory(self):
+        image, facts = self.image, self.facts
+        self.entries = []
+        self.ends = []              # where each block's reading ends
+        for d in range(facts.dir_length):
+            at = (facts.dir_start + d) * LOGICAL_BLOCK
+            end = at + LOGICAL_BLOCK
+            while at < end and image[at] & 0x80:
+                if at + ENTRY_HEAD > end:
+                    raise Refused(6)
+                (flags, version, finder, number, start0, logical0, physical0,
+                 start1, logical1, physical1, created, changed,
+                 name_length) = HEAD.unpack_from(image, at)
+                size = even(ENTRY_HEAD + name_length)
+                if at + size > end or name_length == 0 or version != 0:
+                    raise Refused(6)
+                name_at = at + ENTRY_HEAD
+                forks = (Fork(start0, logical0, physical0),
+                         Fork(start1, logical1, physical1))
+                self.entries.append(Placed(
+                    Entry(flags, finder, number, forks, created, changed,
+                          bytes(image[name_at:name_at + name_length])),
+                    at, size, d))
+                at += size
+            self.ends.append(at)
+
+    # check 7
+
+    def check_files(self):
+        facts = self.facts
+        if len(self.entries) != facts.files:
+            raise Refused(7)
+        numbers = set()
+        self.places = {}                        # folded name -> place
+        for place, placed in enumerate(self.entries):
+            number = placed.entry.number
+            if number == 0 or number >= facts.next_number or number in numbers:
+                raise Refused(7)
+            numbers.add(number)
+            key = fold(placed.entry.name)
+            if key in self.places:
+                raise Refused(7)
+            self.places[key] = place
+
+    # checks 8 to 10
+
+    def walk_forks(self):
+        n, a = self.facts.blocks, self.facts.block_size
+        owned = [False] * (n + 2)
+        for placed in self.entries:
+            for which, fork in enumerate(placed.entry.forks):
+                if fork.start == 0:
+                    if fork.logical or fork.physical:
+                        raise Refused(8)
+                    continue
+                if fork.physical == 0 or fork.physical % a:
+                    raise Refused(8)
+                if fork.logical > fork.physical:
+                    raise Refused(8)
+                placed.chains[which] = self.walk(
+                    fork.start, fork.physical // a, owned)
+        for b in range(2, n + 2):
+            if self.map[b] and not owned[b]:
+                raise Refused(9)
+        if self.facts.free != self.map.count(0) - 2:
+            raise Refused(10)
+
+    def walk(self, start, count, owned):
+        """The chain of exactly count blocks from start.  Each step takes a
+        block that no step took before, so there are at most n steps however
+        large the count is: a ring, or a block of another fork, ends it."""
+        n = self.facts.blocks
+        chain = []
+        b = start
+        while True:
+            if not 2 <= b <= n + 1 or owned[b]:
+                raise Refused(8)
+            owned[b] = True
+            chain.append(b)
+            b = self.map[b]
+            if len(chain) == count:
+                if b != 1:
+                    raise Refused(8)
+                return chain
+
+    # checks after 10
+
+    def refuse_locked(self):
+        if self.facts.attributes & 0x8080:
+            raise Refused(11)
+
+    def refuse_name(self, name):
+        if not 1 <= len(name) <= 255:
+            raise Refused(12)
+
+    def place_of(self, name):
+        self.refuse_name(name)
+        place = self.places.get(fold(name))
+        if place is None:
+            raise Refused(13)
+        return place
+
+    def file_of(self, name):
+        return self.entries[self.place_of(name)]
+
+    def file_to_change(self, name):
+        self.refuse_locked()
+        placed = self.file_of(name)
+        if placed.entry.flags & 1:
+            raise Refused(15)
+        return placed
+
+    # places and stores
+
+    def byte_of(self, b):
+        """The byte where allocation block b starts."""
+        return 512 * self.facts.area + (b - 2) * self.facts.block_size
+
+    def pieces(self, chain, offset, length):
+        """The runs of image bytes that hold length fork bytes at offset."""
+        a = self.facts.block_size
+        while length > 0:
+            skip = offset % a
+            run = min(a - skip, length)
+            yield self.byte_of(chain[offset // a]) + skip, run
+            offset += run
+            length -= run
+
+    def store(self, at, size, value):
+        self.image[at:at + size] = value.to_bytes(size, 'big')
+
+    def store_files(self, count):
+        self.store(INFO_AT + 12, 2, count)
+
+    def store_next_number(self, number):
+        self.store(INFO_AT + 30, 4, number)
+
+    def store_free(self, count):
+        self.store(INFO_AT + 34, 2, count)
+
+    def store_map(self, b, value):
+        """Stores one 12-bit entry and keeps its neighbour's half-byte."""
+        pair, low = divmod(b - 2, 2)
+        at = MAP_AT + 3 * pair
+        image = self.image
+        if low:
+            image[at + 1] = image[at + 1] & 0xF0 | value >> 8
+            image[at + 2] = value & 0xFF
+        else:
+            image[at] = value >> 4
+            image[at + 1] = (value & 0x0F) << 4 | image[at + 1] & 0x0F
+
+    def store_fork(self, placed, which, chain, logical):
+        start = chain[0] if chain else 0
+        physical = len(chain) * self.facts.block_size
+        FORK.pack_into(self.image, placed.at + FORK_AT[which],
+                       start, logical, physical)
+
+    def dir_block_end(self, d):
+        return (self.facts.dir_start + d + 1) * LOGICAL_BLOCK
+
+
+def check(image):
+    try:
+        return 0, Volume(image).facts
+    except Refused as refused:
+        return refused.number, NO_FACTS
+
+
+def entry(image, place):
+    try:
+        v = Volume(image)
+        if place >= len(v.entries):
+            raise Refused(13)
+        return 0, v.entries[place].entry
+    except Refused as refused:
+        return refused.number, NO_ENTRY
+
+
+def find(image, name):
+    try:
+        v = Volume(image)
+        place = v.place_of(name)
+        return 0, place, v.entries[place].entry
+    except Refused as refused:
+        return refused.number, 0, NO_ENTRY
+
+
+def block(image, name, fork, place):
+    try:
+        chain = Volume(image).file_of(name).chains[fork]
+        if place >= len(chain):
+            raise Refused(16)
+        return 0, chain[place]
+    except Refused as refused:
+        return refused.number, 0
+
+
+def read(image, name, fork, offset, buffer):
+    try:
+        v = Volume(image)
+        placed = v.file_of(name)
+        logical = placed.entry.forks[fork].logical
+        if offset > logical:
+            raise Refused(16)
+        count = min(len(buffer), logical - offset)
+        to = 0
+        for at, run in v.pieces(placed.chains[fork], offset, count):
+            buffer[to:to + run] = image[at:at + run]
+            to += run
+        return 0, count
+    except Refused as refused:
+        return refused.number, 0
+
+
+def create(image, name, finder, created, changed):
+    try:
+        v = Volume(image)
+        v.refuse_locked()
+        v.refuse_name(name)
+        if fold(name) in v.places:
+            raise Refused(14)
+        if v.facts.next_number == LAST_NUMBER:
+            raise Refused(19)
+        size = even(ENTRY_HEAD + len(name))
+        for d, at in enumerate(v.ends):
+            end = v.dir_block_end(d)
+            if end - at >= size:
+                break
+        else:
+            raise Refused(18)
+    except Refused as refused:
+        return refused.number
+    image[at:end] = bytes(end - at)
+    HEAD.pack_into(image, at, 0x80, 0, bytes(finder), v.facts.next_number,
+                   0, 0, 0, 0, 0, 0, created, changed, len(name))
+    image[at + ENTRY_HEAD:at + ENTRY_HEAD + len(name)] = name
+    v.store_next_number(v.facts.next_number + 1)
+    v.store_files(v.facts.files + 1)
+    return 0
+
+
+def write(image, name, fork, offset, data, changed):
+    try:
+        v = Volume(image)
+        placed = v.file_to_change(name)
+        logical = placed.entry.forks[fork].logical
+        if offset > logical:
+            raise Refused(16)
+        logical = max(logical, offset + len(data))
+        chain = placed.chains[fork]
+        missing = blocks_for(logical, v.facts.block_size) - len(chain)
+        if missing > v.facts.free:
+            raise Refused(17)
+    except Refused as refused:
+        return refused.number
+    if missing > 0:
+        free = [b for b in range(2, v.facts.blocks + 2) if v.map[b] == 0]
+        new = free[:missing]
+        if chain:
+            v.store_map(chain[-1], new[0])
+        for b, following in zip(new, new[1:] + [1]):
+            v.store_map(b, following)
+        chain = chain + new
+        v.store_free(v.facts.free - missing)
+    v.store_fork(placed, fork, chain, logical)
+    v.store(placed.at + CHANGED_AT, 4, changed)
+    taken = 0
+    for at, run in v.pieces(chain, offset, len(data)):
+        image[at:at + run] = data[taken:taken + run]
+        taken += run
+    return 0
+
+
+def cut(image, name, fork, length, changed):
+    try:
+        v = Volume(image)
+        placed = v.file_to_change(name)
+        if length > placed.entry.forks[fork].logical:
+            raise Refused(16)
+    except Refused as refused:
+        return refused.number
+    chain = placed.chains[fork]
+    keep = blocks_for(length, v.facts.block_size)
+    kept, dropped = chain[:keep], chain[keep:]
+    if kept:
+        v.store_map(kept[-1], 1)
+    for b in dropped:
+        v.store_map(b, 0)
+    v.store_free(v.facts.free + len(dropped))
+    v.store_fork(placed, fork, kept, length)
+    v.store(placed.at + CHANGED_AT, 4, changed)
+    return 0
+
+
+def delete(image, name):
+    try:
+        v = Volume(image)
+        placed = v.file_to_change(name)
+    except Refused as refused:
+        return refused.number
+    dropped = placed.chains[DATA] + placed.chains[RESOURCE]
+    for b in dropped:
+        v.store_map(b, 0)
+    v.store_free(v.facts.free + len(dropped))
+    v.store_files(v.facts.files - 1)
+    later = image[placed.at + placed.size:v.ends[placed.dir_block]]
+    end = v.dir_block_end(placed.dir_block)
+    image[placed.at:end] = later + bytes(end - placed.at - len(later))
+    return 0
