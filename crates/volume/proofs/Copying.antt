@@ -93,7 +93,7 @@ module _ (image : List ℕ) (s a n : ℕ) (small : n ≤ 640) (room : 512 * s + 
   chain-lies k b h = let r = runs-block (mapEntry image) n k b h in lies image s a n b room (block-low n b r) (block-high n b r)
 
   -- so it is at each place of a chain
-  pub onward-at : (k t place within : ℕ) → runs (mapEntry image) n k t ≡ true → place < k
+  onward-at : (k t place within : ℕ) → runs (mapEntry image) n k t ≡ true → place < k
       → Onward image s a (drop (place * a + within) (bytesOf s a image (chainBlocks (mapEntry image) k t)))
       (getD (chainBlocks (mapEntry image) k t) place 0) within
   unfolding chainBlocks
@@ -208,7 +208,7 @@ module _ (image : List ℕ) (s a : ℕ) (g : ForkFacts) (h : Copyable image s a 
   holds : g .logical ≤ length (bytesOf s a image (forkBlocks (mapEntry image) a g))
   holds = omega (arith, length-bytes s a image (forkBlocks (mapEntry image) a g) inside, good (mapEntry image) (h .n) a g (h .good) .0 .logical)
 
-  pub length-fork : length (forkBytes s a image g) ≡ g .logical
+  length-fork : length (forkBytes s a image g) ≡ g .logical
   unfolding forkBytes
   length-fork = length-take-le (g .logical) (bytesOf s a image (forkBlocks (mapEntry image) a g)) holds
 

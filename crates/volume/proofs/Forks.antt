@@ -1,14 +1,13 @@
 -- Laws of a named file's forks on an accepted image: each is sound, has at most 640 blocks and a chain with each of its places, and
 -- can be copied.
 use Prim.Native.Nat.{ℕ, _/_, _≤_, _<_}
-use mathlib.Core.Path.{_≡_, sym, ap, _∙_}
+use mathlib.Core.Path.{_≡_, ap, _∙_}
 use mathlib.Core.List.{List, []}
 use native.Mathlib.Omega.{arith}
 use native.Mathlib.Nat.{zero-div}
-use native.Mathlib.Decide.{ℕ-discrete}
-use lib.ListN.{length, getD}
-use Rattle.model.specs.Lists.{first, placeOf}
-use Rattle.model.specs.Facts.{factsOf, N, A, S}
+use lib.ListN.{length}
+use Rattle.model.specs.Lists.{placeOf}
+use Rattle.model.specs.Facts.{N, A, S}
 use Rattle.model.specs.Map.{mapEntry}
 use Rattle.model.specs.Directory.{directory, named, forkOf}
 use Rattle.model.specs.Check.{SoundFork}

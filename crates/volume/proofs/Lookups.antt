@@ -1,7 +1,7 @@
 -- Laws of the search in an accepted image's directory: the cursor at its first entry, what is found from there on, and what a
 -- name names.
 use Prim.Native.Nat.{ℕ, _≤_, _<_}
-use mathlib.Core.Path.{_≡_, refl}
+use mathlib.Core.Path.{_≡_}
 use mathlib.Core.Bool.{true, false}
 use mathlib.Core.List.{List}
 use native.Mathlib.Omega.{arith}
@@ -38,6 +38,10 @@ module _ (name : List ℕ) where
   pub title-good : (length name ≡ 0 → ⊥) → length name ≤ 255 → badName name ≡ false
   unfolding badName
   title-good z h = rw (ne-eqb (length name) 0 z, le-ltb 255 (length name) h)
+
+-- a bad name
+pub missed-title : (image name : List ℕ) → badName name ≡ true → Missed image name 12
+missed-title image name h = record { fires = rw h; some = λ z. omega arith }
 
 -- what a name names, by its case
 module _ (image name : List ℕ) (n : Named) (h : Names image name n) where
@@ -79,7 +83,3 @@ module _ {f : VolumeFacts} {image : List ℕ} (r : Readable f image) where
       found-none p =
           let none : any (named name) (directory image) ≡ false = rw first-rest at (rw p at h) in
           record { fires = rw (good, none); some = λ z. omega arith }
-
--- a bad name
-pub missed-title : (image name : List ℕ) → badName name ≡ true → Missed image name 12
-missed-title image name h = record { fires = rw h; some = λ z. omega arith }

@@ -221,7 +221,7 @@ pub directory-passes : (files next : ℕ) (es : List (List ℕ)) (m : ℕ) → m
 unfolding directoryNumber
 directory-passes files next es m d y = else-zero (fires6 es) 5 _ (sym d ∙ y) .0
 
--- ---- the cursor over the directory of an image that has passed checks 1 to 4
+-- ---- the cursor over the directory
 
 module _ (f : VolumeFacts) (image : List ℕ) (e : f ≡ factsOf image) (c : Cursor) (b : Begins (dirStart f) (dirLength f) c) where
   pub rest-directory : restOf image c ≡ directory image

@@ -1,11 +1,10 @@
 -- The returns of the calls that change nothing: on an image that is not accepted, and on one that is.
 use Prim.Native.Nat.{ℕ, _/_, _^_, _≤_, _<_}
-use mathlib.Core.Path.{_≡_, refl, sym, _∙_}
+use mathlib.Core.Path.{_≡_, refl, _∙_}
 use mathlib.Core.Bool.{Bool, true, false, not}
-use mathlib.Core.List.{List, []}
+use mathlib.Core.List.{List}
 use native.Mathlib.Omega.{arith}
-use lib.ListN.{length, getD}
-use lib.Dec.{leb}
+use lib.ListN.{length}
 use borrow.Author.Tests.{le-leb, lt-leb, le-ltb, lt-ltb}
 use Rattle.model.specs.Lists.{any}
 use Rattle.model.specs.Bytes.{Bytes}
@@ -13,7 +12,7 @@ use Rattle.model.specs.Facts.{A, S}
 use Rattle.model.specs.Map.{mapEntry}
 use Rattle.model.specs.Directory.{directory, entryIn, noEntry, forkOf, blockCount, forkBlocks, named}
 use Rattle.model.specs.Check.{orElse, verdict}
-use Rattle.model.specs.Calls.{Call, Does, Fits, nameOf, forkGiven, badName, refuses, knownIn, entryNamed}
+use Rattle.model.specs.Calls.{Call, Does, Fits, nameOf, forkGiven, badName, refuses, knownIn}
 use Rattle.model.specs.Calls.{forkBytes, readCount, copied, change, only, lent, reply, tellsEntry, tellsBlock, tellsBytes}
 use Rattle.model.specs.Calls.Call.{entry, find, block, read}
 use Rattle.model.proofs.Check.{accepted-verdict}

@@ -1,7 +1,7 @@
 -- What a name given to a call names.
 use Prim.Native.Nat.{ℕ}
 use mathlib.Core.Path.{_≡_}
-use mathlib.Core.Bool.{true, false, not}
+use mathlib.Core.Bool.{false, not}
 use mathlib.Core.List.{List}
 use Rattle.model.specs.Facts.{factsOf}
 use Rattle.model.specs.Lists.{any}

@@ -1,5 +1,4 @@
 // The calls that change nothing: each checks the volume, then answers.
-ghost use mathlib.Core.Path.{_≡_};
 ghost use Rattle.model.specs.Calls.{Call, Does};
 ghost use Rattle.volume.specs.Told.{toldEntry, toldFind, toldBlock, toldRead};
 use crate::BlockAnswer;

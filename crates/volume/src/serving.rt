@@ -1,5 +1,4 @@
 // What the calls that change nothing answer on an accepted image, whose facts are f.
-ghost use mathlib.Core.Path.{_≡_};
 ghost use Rattle.model.specs.Calls.{Call, Does};
 ghost use Rattle.volume.specs.Lookup.{Readable};
 ghost use Rattle.volume.specs.Told.{toldEntry, toldFind, toldBlock, toldRead};

@@ -46,36 +46,40 @@ loop-holds c =
 
 -- ---- in the loop
 
+-- the function's entry
+abbrev entry : tie.At-loop Inv-loop μ-loop → tie.Start Inv-loop μ-loop
+entry c = c .before .before .before .before
+
 -- the bytes that are due, all of them
 abbrev due : tie.At-loop Inv-loop μ-loop → List ℕ
-due c = let a = c .before .before .before .before .args in bytesFrom (now (a .image)) (a .start .0) (a .size) (a .g) (a .offset)
+due c = let a = entry c .args in bytesFrom (now (a .image)) (a .start .0) (a .size) (a .g) (a .offset)
 
-enough : (c : tie.At-loop Inv-loop μ-loop) → c .before .before .before .before .args .count ≤ length (due c)
+enough : (c : tie.At-loop Inv-loop μ-loop) → entry c .args .count ≤ length (due c)
 enough c =
-    let f = c .before .before .before .before in
+    let f = entry c in
     let a = f .args in
     fork-enough (now (a .image)) (a .start .0) (a .size) (a .g) (f .pre .0) (a .offset) (a .count) (omega arith)
 
-begins : (c : tie.At-loop Inv-loop μ-loop) → let a = c .before .before .before .before .args in
+begins : (c : tie.At-loop Inv-loop μ-loop) → let a = entry c .args in
     Onward (now (a .image)) (a .start .0) (a .size) (due c) (c .before .block-at .result .0) (a .offset % a .size)
 begins c =
-    let f = c .before .before .before .before in
+    let f = entry c in
     let a = f .args in
     fork-onward (now (a .image)) (a .start .0) (a .size) (a .g) (f .pre .0) (a .offset) (omega arith) (c .before .block-at .result .0) (c .before .block-at .ensures)
 
-goes-on : (c : tie.At-loop Inv-loop μ-loop) → let a = c .before .before .before .before .args in
+goes-on : (c : tie.At-loop Inv-loop μ-loop) → let a = entry c .args in
     Onward (now (a .image)) (a .start .0) (a .size) (drop (c .loop .done) (due c)) (c .loop .b .0) (c .loop .within)
 goes-on c = c .loop .inv .onward (due c) (begins c) (enough c)
 
 block : (c : tie.At-loop Inv-loop μ-loop) → (2 ≤ c .loop .b .0) × (c .loop .b .0 ≤ 641)
 block c =
-    let a = c .before .before .before .before .args in
+    let a = entry c .args in
     onward-block (now (a .image)) (a .start .0) (a .size) (drop (c .loop .done) (due c)) (c .loop .b .0) (c .loop .within) (goes-on c)
 
-lies : (c : tie.At-loop Inv-loop μ-loop) → let a = c .before .before .before .before .args in
+lies : (c : tie.At-loop Inv-loop μ-loop) → let a = entry c .args in
     blockByte (a .start .0) (a .size) (c .loop .b .0) + a .size ≤ length (now (a .image))
 lies c =
-    let a = c .before .before .before .before .args in
+    let a = entry c .args in
     onward-lies (now (a .image)) (a .start .0) (a .size) (drop (c .loop .done) (due c)) (c .loop .b .0) (c .loop .within) (goes-on c)
 
 sub-smaller : tie.Need-sub-smaller Inv-loop μ-loop
@@ -89,7 +93,7 @@ smaller-requires c κs = tt
 
 logical-requires : tie.Need-logical-requires Inv-loop μ-loop
 logical-requires c κs =
-    let h = c .before .before .before .before .before .pre .0 in
+    let h = entry (c .before) .pre .0 in
     let b = block (c .before) in
     omega (arith, h .whole, h .most, h .start)
 
@@ -98,46 +102,46 @@ byte-requires c κs = tt
 
 -- where the bytes of this turn stand, and how many they are
 from-block : (c : tie.After-byte Inv-loop μ-loop) → let l = c .before .before .before in
-    c .byte .result ≡ blockByte (l .before .before .before .before .args .start .0) (l .before .before .before .before .args .size) (l .loop .b .0)
+    c .byte .result ≡ blockByte (entry l .args .start .0) (entry l .args .size) (l .loop .b .0)
 from-block c = c .byte .ensures ∙ c .before .logical .ensures
 
 abbrev number : tie.After-byte Inv-loop μ-loop → ℕ
 number c = c .before .before .smaller .result
 
 in-block : (c : tie.After-byte Inv-loop μ-loop) → let l = c .before .before .before in
-    l .loop .within + number c ≤ l .before .before .before .before .args .size
+    l .loop .within + number c ≤ entry l .args .size
 in-block c = let m = c .before .before .before .loop .inv in omega (arith, c .before .before .smaller .ensures, m .here)
 
 in-count : (c : tie.After-byte Inv-loop μ-loop) → let l = c .before .before .before in
-    l .loop .done + number c ≤ l .before .before .before .before .args .count
+    l .loop .done + number c ≤ entry l .args .count
 in-count c = let m = c .before .before .before .loop .inv in omega (arith, c .before .before .smaller .ensures, m .more)
 
 add-from : tie.Need-add-from Inv-loop μ-loop
 add-from c =
     let l = c .before .before .before in
     let m = l .loop .inv in
-    omega (arith, from-block c, lies l, m .here, l .before .before .before .before .good)
+    omega (arith, from-block c, lies l, m .here, entry l .good)
 
 copy-part-requires : tie.Need-copy-part-requires Inv-loop μ-loop
 copy-part-requires c κs =
     let l = c .before .before .before .before in
     let m = l .loop .inv in
-    (omega (arith, from-block (c .before), lies l, in-block (c .before)), omega (arith, in-count (c .before), m .size, l .before .before .before .before .pre))
+    (omega (arith, from-block (c .before), lies l, in-block (c .before)), omega (arith, in-count (c .before), m .size, entry l .pre))
 
 add-done : tie.Need-add-done Inv-loop μ-loop
 add-done c =
     let y = c .before .before .before .before in
-    omega (arith, in-count y, y .before .before .before .before .before .before .before .fits)
+    omega (arith, in-count y, entry (y .before .before .before) .fits)
 
 -- ---- after the copy
 
-stored : (c : tie.After-copy-part Inv-loop μ-loop) → let y = c .before .before in let l = y .before .before .before in let a = l .before .before .before .before .args in
+stored : (c : tie.After-copy-part Inv-loop μ-loop) → let y = c .before .before in let l = y .before .before .before in let a = entry l .args in
     c .copy-part .last .1 .1 .0
     ≡ paste (l .loop .buffer) (l .loop .done) (drop (blockByte (a .start .0) (a .size) (l .loop .b .0) + l .loop .within) (now (a .image))) (number y)
 stored c =
     let y = c .before .before in
     let l = y .before .before .before in
-    let a = l .before .before .before .before .args in
+    let a = entry l .args in
     c .copy-part .ensures ∙ ap (λ q. paste (l .loop .buffer) (l .loop .done) (drop (q + l .loop .within) (now (a .image))) (number y)) (from-block y)
 
 same-length : tie.Need-same-length Inv-loop μ-loop
@@ -148,7 +152,7 @@ returns c =
     let k = c .before .before .before in
     let y = k .before .before in
     let l = y .before .before .before in
-    let f = l .before .before .before .before in
+    let f = entry l in
     let a = f .args in
     let xs = due l in
     let end : l .loop .done + number y ≡ a .count = omega (arith, in-count y, c .if1 .taken) in
@@ -159,8 +163,10 @@ returns c =
     ∙ ap (λ x. x ++ drop (a .count) (a .buffer .now)) (fork-part (now (a .image)) (a .start .0) (a .size) (a .g) (f .pre .0) (a .offset) (a .count) (f .pre .2))
 
 load-requires : tie.Need-load-requires Inv-loop μ-loop
-load-requires c κs = let b = block (c .before .before .before .before .before .before .before .before) in
-    let f = c .before .before .before .before .before .before .before .before .before .before .before .before in
+load-requires c κs =
+    let l = c .before .before .before .before .before .before .before .before in
+    let b = block l in
+    let f = entry l in
     (b .0, b .1, omega (arith, f .pre .0 .low, f .pre .0 .room))
 
 loop-less : tie.Need-loop-less Inv-loop μ-loop
@@ -174,7 +180,7 @@ loop-again c =
     let k = c .before .before .before .before in
     let y = k .before .before in
     let l = y .before .before .before in
-    let f = l .before .before .before .before in
+    let f = entry l in
     let a = f .args in
     let end : l .loop .within + number y ≡ a .size = omega (arith, y .before .before .smaller .ensures, c .before .if1 .left, l .loop .inv .here) in
     midway-next (now (a .image)) (a .start .0) (a .size) (a .count) (l .before .block-at .result .0) (a .offset % a .size) (a .buffer .now)

@@ -47,7 +47,7 @@ returns c =
     let l = e .before .before in
     let s = l .before .before .before in
     block-beyond (s .pre) (octets _ (l .before .before .shared-slice-known .given)) (now (s .args .name)) (s .args .fork) (s .args .place) (octets _ (l .before .shared-slice-known2 .given)) (omega arith)
-    _ _ (file e) (k .read-fork .result) (k .read-fork .ensures) (c .if1 .taken)
+    _ _ (file e) (k .read-fork .result) (k .read-fork .ensures) (omega (arith, c .if1 .taken))
 
 cast-block-at : tie.Need-cast-block-at
 cast-block-at c =

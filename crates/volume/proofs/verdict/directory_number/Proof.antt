@@ -1,6 +1,8 @@
 -- `directory_number` meets its contract: the first of checks 6 and 7 that fires. Assumes nothing.
 use mathlib.Core.Path.{_≡_, sym, _∙_}
 use mathlib.Core.Bool.{false}
+use native.Mathlib.Omega.{arith}
+use lib.ListN.{length}
 use denote.Ref.{now}
 use borrow.Author.Tests.{not-true, not-false}
 use Rattle.model.specs.Check.{fires6}
@@ -20,11 +22,14 @@ six c = sym (c .before .count-entries .ensures .six) ∙ c .if1 .left
 pass : (c : tie.Else1) → let s = c .before .before .before in Passes (now (s .args .image)) (s .args .c)
 pass c = record { fits = c .before .before .before .pre; good = six c }
 
+counted : (c : tie.Else1) → let s = c .before .before .before in c .before .count-entries .result .count ≡ length (restOf (now (s .args .image)) (s .args .c))
+counted c = c .before .count-entries .ensures .counted (c .if1 .left)
+
 returns : tie.Need-returns
 returns c = number-6 _ _ _ (sym (c .before .count-entries .ensures .six) ∙ c .if1 .taken)
 
 returns-2 : tie.Need-returns-2
-returns-2 c = let k = c .before .before in number-count _ _ _ (six k) (λ q. c .if2 .taken (k .before .count-entries .ensures .counted (k .if1 .left) ∙ q))
+returns-2 c = let k = c .before .before in number-count _ _ _ (six k) (λ q. omega (arith, counted k))
 
 numbers-good-requires : tie.Need-numbers-good-requires
 numbers-good-requires c κs = pass (c .before .before)
@@ -44,7 +49,7 @@ returns-5 c =
     let count = numbers .before in
     let k = count .before .before in
     number-clear _ _ _ (six k)
-    (sym (k .before .count-entries .ensures .counted (k .if1 .left)) ∙ count .if2 .left)
+    (omega (arith, counted k))
     (sym (numbers .numbers-good .ensures) ∙ not-false _ (c .before .before .if3 .left))
     (sym (c .before .all-differ .ensures) ∙ not-false _ (c .if4 .left))
 
