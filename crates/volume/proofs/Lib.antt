@@ -2,6 +2,8 @@ pub mod Numbers
 pub mod Claims
 pub mod Checked
 pub mod Copying
+pub mod Filling
+pub mod Growing
 pub mod Octets
 pub mod Lookups
 pub mod Forks

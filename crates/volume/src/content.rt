@@ -1,12 +1,13 @@
 // The bytes of a fork, block by block.
 ghost use mathlib.Core.Path.{_≡_};
 ghost use mathlib.Core.List.{_++_};
-ghost use Prim.Native.Nat.{_+_, _≤_, min};
+ghost use Prim.Native.Nat.{_+_, _*_, _≤_, min};
 ghost use lib.ListN.{length, drop};
 ghost use lib.Seq.{paste};
 ghost use Rattle.model.specs.Bytes.{part};
-ghost use Rattle.model.specs.Calls.{forkBytes, readCount, copied};
-ghost use Rattle.volume.specs.Content.{Copyable};
+ghost use Rattle.model.specs.Calls.{forkBytes, putContent, readCount, copied};
+ghost use Rattle.model.specs.Map.{mapEntry, chainBlocks};
+ghost use Rattle.volume.specs.Content.{Copyable, Fillable};
 use model::AllocationBlock;
 use model::ForkFacts;
 use model::LogicalBlock;
@@ -81,4 +82,38 @@ pub fn copy_fork(
     }
     copy_blocks(image, start, size, g, offset, count, buffer);
     count
+}
+
+// Stores the bytes from the offset on into the chain of blocks that starts at the first. For no bytes nothing is touched.
+pub fn fill_fork(
+    image: &mut [u8],
+    start: LogicalBlock,
+    size: u32,
+    first: AllocationBlock,
+    blocks: u16,
+    offset: usize,
+    bytes: &[u8],
+)
+    requires { ⌜ Fillable (now image) (start .0) size (first .0) blocks × (offset + length (now bytes) ≤ blocks * size) ⌝ }
+    ensures { λ r. ⌜ now (image .exit) ≡ putContent (start .0) size (now (image .entry)) (chainBlocks (mapEntry (now (image .entry))) blocks (first .0)) offset (now (bytes .entry)) ⌝ }
+{
+    let count = bytes.len();
+    if count == 0 {
+        return;
+    }
+    let a = size as usize;
+    let mut block = blockmap::block_at(image, first, (offset / a) as u16);
+    let mut at = offset % a;
+    let mut stored = 0;
+    loop {
+        let n = smaller(a - at, count - stored);
+        let to = block.logical(start, size).byte() + at;
+        copy_part(bytes, stored, image, to, n);
+        stored += n;
+        if count <= stored {
+            return;
+        }
+        at = 0;
+        block = AllocationBlock(blockmap::load(image, block));
+    }
 }

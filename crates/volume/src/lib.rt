@@ -1,6 +1,7 @@
 // The calls on a volume. Each checks the image itself, and states its answer and every byte that it leaves.
 mod answers;
 mod content;
+mod limits;
 mod lookup;
 mod reading;
 mod serving;
@@ -47,4 +48,10 @@ pub struct ReadAnswer {
 pub enum Named {
     At(usize, EntryAt),
     Refused(u8),
+}
+
+// The new blocks that a write needs: 0 and how many they are, or 17 and 0.
+pub struct NewBlocks {
+    pub number: u8,
+    pub blocks: u16,
 }
