@@ -32,6 +32,11 @@ unfolding from any
 any-same p q zero s h = refl
 any-same p q (suc k) s h = rw (h s (omega arith) (omega arith), any-same p q k (suc s) (λ b low high. h b (omega arith) (omega arith)))
 
+pub keep-same : (p q : ℕ → Bool) (k s : ℕ) → ((b : ℕ) → s ≤ b → p b ≡ q b) → keep p (from k s) ≡ keep q (from k s)
+unfolding from keep
+keep-same p q zero s h = refl
+keep-same p q (suc k) s h = rw (h s (omega arith), keep-same p q k (suc s) (λ b low. h b (omega arith)))
+
 module _ (n b : ℕ) where
   pub onward-next : b < n + 2 → onward n b ≡ b ∷ onward n (b + 1)
   onward-next h = next (n + 2 - b) b (omega arith) ∙ ap (λ k. b ∷ from k (b + 1)) (omega arith)
@@ -53,15 +58,25 @@ module _ (p : ℕ → Bool) (n b : ℕ) where
   unfolding any
   any-none h = ap (any p) (onward-none n b h)
 
-  -- the same for the number of those that pass
-  pub count-hit : b < n + 2 → p b ≡ true → length (keep p (onward n b)) ≡ suc (length (keep p (onward n (b + 1))))
+  -- the same for the list of those that pass
+  pub keep-hit : b < n + 2 → p b ≡ true → keep p (onward n b) ≡ b ∷ keep p (onward n (b + 1))
   unfolding keep
-  count-hit h e = ap (λ l. length (keep p l)) (onward-next n b h) ∙ rw e
+  keep-hit h e = ap (keep p) (onward-next n b h) ∙ rw e
+
+  pub keep-miss : b < n + 2 → p b ≡ false → keep p (onward n b) ≡ keep p (onward n (b + 1))
+  unfolding keep
+  keep-miss h e = ap (keep p) (onward-next n b h) ∙ rw e
+
+  pub keep-none : n + 2 ≤ b → keep p (onward n b) ≡ []
+  unfolding keep
+  keep-none h = ap (keep p) (onward-none n b h)
+
+  -- and for their number
+  pub count-hit : b < n + 2 → p b ≡ true → length (keep p (onward n b)) ≡ suc (length (keep p (onward n (b + 1))))
+  count-hit h e = ap length (keep-hit h e)
 
   pub count-miss : b < n + 2 → p b ≡ false → length (keep p (onward n b)) ≡ length (keep p (onward n (b + 1)))
-  unfolding keep
-  count-miss h e = ap (λ l. length (keep p l)) (onward-next n b h) ∙ rw e
+  count-miss h e = ap length (keep-miss h e)
 
   pub count-none : n + 2 ≤ b → length (keep p (onward n b)) ≡ 0
-  unfolding keep
-  count-none h = ap (λ l. length (keep p l)) (onward-none n b h)
+  count-none h = ap length (keep-none h)
