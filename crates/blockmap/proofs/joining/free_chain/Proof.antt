@@ -31,7 +31,7 @@ module _ (c : tie.In-loop Inv-loop μ-loop) where
   unfolding start
   block =
       let l = c .before .loop in
-      let h = free-block (start .args .n) (l .b) (l .left) (l .image) _ (c .loop-test .taken) (l .inv .1) in
+      let h = free-block (start .args .n) (l .b) (l .left) (l .image) _ (omega arith) (l .inv .1) in
       omega arith
 
 load-requires : tie.Need-load-requires Inv-loop μ-loop
@@ -61,7 +61,7 @@ loop-again c =
       ap length st ∙ length-setEntry (l .image) (l .b) 0 ∙ l .inv .0,
       free-next (a .n) (l .b) (l .left) (l .image) (putFree (now (a .image)) (chainBlocks (mapEntry (now (a .image))) (a .k) (a .s .0)))
           (c .before .before .store .last .0) (c .before .before .before .before .load .result)
-          st (c .before .before .before .before .load .ensures .0) (omega arith) (p .loop-test .taken) (l .inv .1),
+          st (c .before .before .before .before .load .ensures .0) (omega arith) (omega arith) (l .inv .1),
     )
 
 same-length : tie.Need-same-length Inv-loop μ-loop

@@ -1,10 +1,10 @@
 -- `copy` meets its contract. The loop's invariant: the first i bytes are those of the image from `at` on. Assumes nothing.
-use Prim.Native.Nat.{_+_, _-_, _≤_}
+use Prim.Native.Nat.{_-_, _≤_}
 use mathlib.Core.Path.{_≡_, refl, sym, _∙_}
 use native.Mathlib.Omega.{arith}
 use lib.ListN.{length, take, length-set}
 use lib.Seq.{take-all}
-use Rattle.model.specs.Bytes.{byte, part}
+use Rattle.model.specs.Bytes.{part}
 use Rattle.model.proofs.Bytes.{copy-next}
 use Rattle.directory.proofs.fields.copy.Statement.{statement}
 use Rattle.directory.proofs.fields.copy.Tie as tie
@@ -31,14 +31,13 @@ add-i : tie.Need-add-i Inv-loop μ-loop
 add-i c = omega arith
 
 loop-less : tie.Need-loop-less Inv-loop μ-loop
-loop-less c = let l = c .before .before .loop in omega (arith, length-set (l .to) (l .i) (byte (c .before .before .before .args .image .now) (c .before .before .before .args .at + l .i)))
+loop-less c = simp length-set (omega arith)
 
 loop-again : tie.Need-loop-again Inv-loop μ-loop
 loop-again c =
     let a = c .before .before .before .args in
     let l = c .before .before .loop in
-    let long = length-set (l .to) (l .i) (byte (a .image .now) (a .at + l .i)) in
-    (omega arith, long ∙ l .inv .1, copy-next (a .image .now) (l .to) (a .at) (l .i) (omega arith) (omega arith) (l .inv .2))
+    (simp length-set (omega arith), simp length-set (l .inv .1), copy-next (a .image .now) (l .to) (a .at) (l .i) (omega arith) (omega arith) (l .inv .2))
 
 same-length : tie.Need-same-length Inv-loop μ-loop
 same-length c = c .before .loop .inv .1

@@ -1,10 +1,10 @@
 -- `name_at` meets its contract. Assumes nothing.
 use Prim.Native.Nat.{ℕ, _+_}
-use mathlib.Core.Path.{_≡_, sym, ap, _∙_}
+use mathlib.Core.Path.{_≡_, ap, _∙_}
 use mathlib.Core.List.{List, _++_}
 use native.Mathlib.Omega.{arith}
 use denote.Ref.{now}
-use lib.ListN.{length, drop, length-drop}
+use lib.ListN.{length, drop, length-take, length-drop}
 use lib.Seq.{length-take-le}
 use Rattle.model.specs.Bytes.{zeros, part}
 use Rattle.directory.proofs.Parts.{wide-are}
@@ -16,10 +16,10 @@ array-borrow-prefix-name : tie.Need-array-borrow-prefix-name
 array-borrow-prefix-name c = search needs
 
 slice-aggregate-copy : tie.Need-slice-aggregate-copy
-slice-aggregate-copy c = sym (length-take-le (c .before .before .args .count) (zeros 255) (c .before .before .pre .1))
+slice-aggregate-copy c = simp length-take (omega arith)
 
 copy-requires : tie.Need-copy-requires
-copy-requires c κs = let s = c .before .before in omega (arith, length-take-le (s .args .count) (zeros 255) (s .pre .1))
+copy-requires c κs = simp length-take (omega arith)
 
 returns : tie.Need-returns
 returns c =
