@@ -3,10 +3,10 @@
 use Prim.Native.Nat.{ℕ, zero, suc, _+_, _-_, _*_, _≤_, _<_}
 use mathlib.Core.Path.{_≡_, refl, sym, ap, _∙_}
 use mathlib.Core.Bool.{Bool, true, false, and-false, or-true}
-use mathlib.Core.List.{List, [], _∷_, _++_}
+use mathlib.Core.List.{List, [], _∷_, _++_, append-assoc, append-nil}
 use native.Mathlib.Omega.{arith}
 use native.Mathlib.Nat.{add-assoc, add-zero}
-use lib.ListN.{length, take, drop, length-drop}
+use lib.ListN.{length, take, drop, length-drop, length-append}
 use lib.Seq.{length-take-le, getD-drop, drop-drop}
 use lib.Dec.{leb, ltb}
 use borrow.Author.Tests.{le-leb, lt-leb, lt-ltb, le-ltb, eq-eqb, ne-eqb}
@@ -14,12 +14,13 @@ use Rattle.model.specs.Lists.{flat}
 use Rattle.model.specs.Bytes.{byte, part}
 use Rattle.model.specs.Directory.{padded, entrySize, inUse, endsAt, nextPlace, readAt, entries, cutBlocks, listing}
 use Rattle.model.specs.Check.{goodEntry}
+use Rattle.model.proofs.Lists.{flat-append}
 use Rattle.model.proofs.Block.{size-low, step-end, step-more, good-take}
 use Rattle.directory.specs.declared.Cursor.{Cursor}
 use Rattle.directory.specs.declared.Step.{Step}
 use Rattle.directory.specs.declared.Step.the-variants.{Entry, End, Bad}
 use Rattle.directory.proofs.Parts.{part-part, part-byte}
-use Rattle.directory.specs.Cursor.{blockOf, restOf, Fits, ahead, Moves, Fails, Stepped}
+use Rattle.directory.specs.Cursor.{blockOf, restOf, Fits, Comes, Lies, ahead, Moves, Fails, Stepped}
 
 -- ---- any fuel that reaches the block's end is enough
 
@@ -152,17 +153,49 @@ module _ (image : List ℕ) (c : Cursor) (f : Fits image c) where
               ap goodEntry (sym bytes-are) ∙ good-take b
               ∙ rw (le-leb (entrySize b) (length b) (omega arith), here 50 (omega arith), here 1 (omega arith), ← titled, lt-ltb 0 n (omega arith), eq-eqb (byte image (c .base + c .at + 1)) 0 current)
 
-          rest-here : restOf image c ≡ part (c .base + c .at) (padded (51 + n)) image ∷ restOf image (record { base = c .base; at = next; left = c .left })
-          unfolding restOf nextPlace
-          rest-here =
+          -- the block's entries from here on
+          read-here : readAt 10 (blockOf image c) (c .at) ≡ part (c .base + c .at) (padded (51 + n)) image ∷ readAt 10 (blockOf image c) next
+          unfolding nextPlace
+          read-here =
               let b = blockOf image c in
-              let more = listing (cutBlocks (c .left) (drop (c .base + 512) image)) in
               let place : nextPlace b (c .at) ≡ next = ap (λ (k : ℕ). c .at + k) size ∙ sym behind in
               let low = size-low (drop (c .at) b) in
               let fuel : readAt 9 b next ≡ readAt 10 b next = enough b 9 10 next (omega (arith, size)) (omega (arith, size)) in
-              ap (λ (es : List (List ℕ)). es ++ more) (step-more 9 b (c .at) e)
-              ∙ ap (λ (x : List ℕ). x ∷ (readAt 9 b (nextPlace b (c .at)) ++ more)) bytes-are
-              ∙ ap (λ (es : List (List ℕ)). part (c .base + c .at) (padded (51 + n)) image ∷ (es ++ more)) (ap (readAt 9 b) place ∙ fuel)
+              step-more 9 b (c .at) e
+              ∙ ap (λ (x : List ℕ). x ∷ readAt 9 b (nextPlace b (c .at))) bytes-are
+              ∙ ap (λ (es : List (List ℕ)). part (c .base + c .at) (padded (51 + n)) image ∷ es) (ap (readAt 9 b) place ∙ fuel)
+
+          rest-here : restOf image c ≡ part (c .base + c .at) (padded (51 + n)) image ∷ restOf image (record { base = c .base; at = next; left = c .left })
+          unfolding restOf
+          rest-here = ap (λ (es : List (List ℕ)). es ++ listing (cutBlocks (c .left) (drop (c .base + 512) image))) read-here
+
+          bytes-long : length (part (c .base + c .at) (padded (51 + n)) image) ≡ padded (51 + n)
+          bytes-long = length-take-le (padded (51 + n)) (drop (c .base + c .at) image) (omega (arith, length-drop (c .base + c .at) image))
+
+          lies-here : (base blocks : ℕ) → Comes image base blocks c → Lies image base blocks (record { start = c .base + c .at; «name_length» = n })
+          lies-here base blocks k = record {
+            index = k .index;
+            before = k .before;
+            behind = readAt 10 (blockOf image c) next;
+            within = omega arith;
+            split = ap (λ (b : ℕ). entries (part b 512 image)) (sym (k .block)) ∙ k .split ∙ ap (λ (es : List (List ℕ)). k .before ++ es) read-here;
+            place = omega arith;
+          }
+
+          comes-next : (base blocks : ℕ) → Comes image base blocks c → Comes image base blocks (record { base = c .base; at = next; left = c .left })
+          unfolding flat
+          comes-next base blocks k =
+              let x = part (c .base + c .at) (padded (51 + n)) image in
+              let long : length (flat (k .before ++ (x ∷ []))) ≡ length (flat (k .before)) + length x
+              = rw (flat-append (k .before) (x ∷ []), length-append (flat (k .before)) (x ++ []), append-nil x) in
+              record {
+                index = k .index;
+                before = k .before ++ (x ∷ []);
+                block = k .block;
+                count = k .count;
+                split = k .split ∙ ap (λ (es : List (List ℕ)). k .before ++ es) read-here ∙ sym (append-assoc (k .before) (x ∷ []) (readAt 10 (blockOf image c) next));
+                place = omega (arith, bytes-long);
+              }
 
           pub moves : Moves image c (record { start = c .base + c .at; «name_length» = n }) (record { base = c .base; at = next; left = c .left })
           unfolding padded
@@ -177,6 +210,8 @@ module _ (image : List ℕ) (c : Cursor) (f : Fits image c) where
             };
             fits = record { blocks = f .blocks; place = within };
             less = omega arith;
+            lies = lies-here;
+            comes = comes-next;
           }
 
   -- ---- past a block's end
@@ -193,8 +228,23 @@ module _ (image : List ℕ) (c : Cursor) (f : Fits image c) where
     pub next-block : (c .left ≡ 0 → ⊥) → restOf image c ≡ restOf image (record { base = c .base + 512; at = 0; left = c .left - 1 })
     next-block z = block-read ∙ blocks-rest image (c .left) (c .base + 512) z
 
+-- the reading comes to the first byte of the next block
+pub comes-block : (image : List ℕ) (c : Cursor) (base blocks : ℕ) → (c .left ≡ 0 → ⊥) → Comes image base blocks c
+    → Comes image base blocks (record { base = c .base + 512; at = 0; left = c .left - 1 })
+unfolding entries flat
+comes-block image c base blocks z k = record { index = k .index + 1; before = []; block = omega arith; count = omega arith; split = refl; place = refl }
+
 -- a step from a cursor that has the same entries before it
-pub stepped-from : (image : List ℕ) (c d : Cursor) → restOf image d ≡ restOf image c → ahead c ≤ ahead d → (s : Step) → Stepped image c s → Stepped image d s
-stepped-from image c d r l (Entry e b) h = record { rest = r ∙ h .rest; good = h .good; stands = h .stands; fits = h .fits; less = omega arith }
-stepped-from image c d r l End h = r ∙ h
-stepped-from image c d r l Bad h = record { entry = h .entry; others = h .others; rest = r ∙ h .rest; bad = h .bad }
+pub stepped-from : (image : List ℕ) (c d : Cursor) → restOf image d ≡ restOf image c → ahead c ≤ ahead d
+    → ((base blocks : ℕ) → Comes image base blocks d → Comes image base blocks c) → (s : Step) → Stepped image c s → Stepped image d s
+stepped-from image c d r l k (Entry e b) h = record {
+  rest = r ∙ h .rest;
+  good = h .good;
+  stands = h .stands;
+  fits = h .fits;
+  less = omega arith;
+  lies = λ base blocks m. h .lies base blocks (k base blocks m);
+  comes = λ base blocks m. h .comes base blocks (k base blocks m);
+}
+stepped-from image c d r l k End h = r ∙ h
+stepped-from image c d r l k Bad h = record { entry = h .entry; others = h .others; rest = r ∙ h .rest; bad = h .bad }

@@ -4,9 +4,12 @@ use mathlib.Core.Path.{_≡_}
 use mathlib.Core.Bool.{true, false}
 use mathlib.Core.List.{List, [], _∷_, _++_}
 use lib.ListN.{length, drop}
+use lib.Seq.{paste}
+use Rattle.model.specs.Lists.{flat}
 use Rattle.model.specs.Bytes.{byte, part}
-use Rattle.model.specs.Directory.{padded, readAt, cutBlocks, listing}
+use Rattle.model.specs.Directory.{padded, readAt, entries, cutBlocks, listing}
 use Rattle.model.specs.Check.{goodEntry, fires6}
+use Rattle.model.specs.Calls.{filled}
 use Rattle.directory.specs.declared.Cursor.{Cursor}
 use Rattle.directory.specs.declared.EntryAt.{EntryAt}
 use Rattle.directory.specs.declared.Step.{Step}
@@ -52,6 +55,25 @@ pub record Stands (image : List ℕ) (e : EntryAt) : Type 0 where
   pub some : 1 ≤ e .«name_length»
   pub most : e .«name_length» ≤ 255
 
+-- the reading of so many directory blocks from byte base on comes to the cursor: it stands in block `index` of them, behind the
+-- entries `before` of that block
+pub record Comes (image : List ℕ) (base blocks : ℕ) (c : Cursor) : Type 0 where
+  pub index : ℕ
+  pub before : List (List ℕ)
+  pub block : c .base ≡ base + 512 * index
+  pub count : index + (c .left + 1) ≡ blocks
+  pub split : entries (blockOf image c) ≡ before ++ readAt 10 (blockOf image c) (c .at)
+  pub place : c .at ≡ length (flat before)
+
+-- the entry stands in block `index` of them, between the entries `before` and `behind`
+pub record Lies (image : List ℕ) (base blocks : ℕ) (e : EntryAt) : Type 0 where
+  pub index : ℕ
+  pub before : List (List ℕ)
+  pub behind : List (List ℕ)
+  pub within : index < blocks
+  pub split : entries (part (base + 512 * index) 512 image) ≡ before ++ (bytesAt image e ∷ behind)
+  pub place : e .start ≡ base + 512 * index + length (flat before)
+
 -- the next entry from the cursor c on is e, and the cursor behind it is d
 pub record Moves (image : List ℕ) (c : Cursor) (e : EntryAt) (d : Cursor) : Type 0 where
   pub rest : restOf image c ≡ bytesAt image e ∷ restOf image d
@@ -59,6 +81,8 @@ pub record Moves (image : List ℕ) (c : Cursor) (e : EntryAt) (d : Cursor) : Ty
   pub stands : Stands image e
   pub fits : Fits image d
   pub less : ahead d < ahead c
+  pub lies : (base blocks : ℕ) → Comes image base blocks c → Lies image base blocks e
+  pub comes : (base blocks : ℕ) → Comes image base blocks c → Comes image base blocks d
 
 -- the next entry fails check 6
 pub record Fails (image : List ℕ) (c : Cursor) : Type 0 where
@@ -72,3 +96,12 @@ abbrev pub Stepped : List ℕ → Cursor → Step → Type 0
 Stepped image c (Entry e d) = Moves image c e d
 Stepped image c End = restOf image c ≡ []
 Stepped image c Bad = Fails image c
+
+-- the directory block at byte base is within the image and passes check 6
+pub record Block (image : List ℕ) (base : ℕ) : Type 0 where
+  pub within : base + 512 ≤ length image
+  pub good : fires6 (entries (part base 512 image)) ≡ false
+
+-- the image without the entry: in the block at byte base the later entries moved up, with zeros behind them
+abbrev pub Removes : List ℕ → ℕ → EntryAt → List ℕ → Type 0
+Removes image base e after = (l : Lies image base 1 e) → after ≡ paste image base (filled (l .before ++ l .behind)) 512

@@ -1,3 +1,4 @@
 pub mod Cursor
 pub mod Checks
 pub mod Search
+pub mod Rooms

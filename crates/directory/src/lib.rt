@@ -2,8 +2,11 @@
 mod checks;
 mod fields;
 mod names;
+mod placing;
 mod reading;
+mod removing;
 mod search;
+mod storing;
 
 pub use checks::all_differ;
 pub use checks::count_entries;
@@ -12,8 +15,13 @@ pub use fields::read_entry;
 pub use fields::read_fork;
 pub use names::fold;
 pub use names::same_name;
+pub use placing::find_room;
+pub use removing::read_end;
+pub use removing::remove_entry;
 pub use search::entry_at;
 pub use search::find;
+pub use search::locate;
+pub use storing::store_fork;
 
 // A place in the directory's reading.
 pub struct Cursor {
@@ -52,5 +60,12 @@ pub struct Tally {
 pub enum Found {
     // The entry, with its place in directory order.
     At(usize, EntryAt),
+    Nothing,
+}
+
+// Where a new entry has room.
+pub enum Room {
+    // The byte of the image where the directory block starts, and how far into the block its reading ends.
+    At(usize, usize),
     Nothing,
 }

@@ -2,7 +2,7 @@
 ghost use mathlib.Core.Path.{_≡_};
 ghost use Rattle.model.specs.Directory.{named};
 ghost use Rattle.directory.specs.Cursor.{restOf, bytesAt, Stands, Passes};
-ghost use Rattle.directory.specs.Search.{Finds, Gives};
+ghost use Rattle.directory.specs.Search.{Finds, Located, Gives};
 use crate::Cursor;
 use crate::EntryAt;
 use crate::Found;
@@ -19,10 +19,11 @@ fn has_name(image: &[u8], e: EntryAt, name: &[u8]) -> bool
     same_name(name, &image[from..to])
 }
 
-// The first entry of the name, with its place counted from the cursor.
-pub fn find(image: &[u8], from: Cursor, name: &[u8]) -> Found
+// The first entry of the name, with its place counted from the cursor, and where in the directory it stands.
+pub fn locate(image: &[u8], from: Cursor, name: &[u8]) -> Found
     requires { ⌜ Passes (now image) from ⌝ }
     ensures { λ r. ⌜ Finds (now (image .entry)) (now (name .entry)) (restOf (now (image .entry)) from) r ⌝ }
+    ensures { λ r. ⌜ Located (now (image .entry)) from r ⌝ }
 {
     let mut c = from;
     let mut place: usize = 0;
@@ -43,6 +44,14 @@ pub fn find(image: &[u8], from: Cursor, name: &[u8]) -> Found
             }
         }
     }
+}
+
+// The first entry of the name, with its place counted from the cursor.
+pub fn find(image: &[u8], from: Cursor, name: &[u8]) -> Found
+    requires { ⌜ Passes (now image) from ⌝ }
+    ensures { λ r. ⌜ Finds (now (image .entry)) (now (name .entry)) (restOf (now (image .entry)) from) r ⌝ }
+{
+    locate(image, from, name)
 }
 
 // The entry at a place counted from the cursor.

@@ -1,20 +1,22 @@
 -- `Cursor::next` meets its contract. The loop's invariant: the entries from c on are those from the given cursor on. The measure
 -- is the number of blocks left. Assumes nothing.
-use Prim.Native.Nat.{_-_, _≤_}
+use Prim.Native.Nat.{ℕ, _-_, _≤_}
 use mathlib.Core.Path.{_≡_, refl, sym, _∙_}
 use native.Mathlib.Omega.{arith}
 use mathlib.Core.Bool.{true}
 use denote.Ref.{now}
 use Rattle.model.specs.Directory.{endsAt}
-use Rattle.directory.specs.Cursor.{blockOf, restOf, Fits, ahead}
-use Rattle.directory.proofs.Steps.{last-block, next-block, stepped-from}
+use Rattle.directory.specs.Cursor.{blockOf, restOf, Fits, Comes, ahead}
+use Rattle.directory.proofs.Steps.{last-block, next-block, comes-block, stepped-from}
 use Rattle.directory.proofs.Cursor.next.Statement.{statement}
 use Rattle.directory.proofs.Cursor.next.Tie as tie
 use Rattle.directory.proofs.Cursor.ends.Reads as ends-reads
 use Rattle.directory.proofs.Cursor.entry.Reads as entry-reads
 
 abbrev Inv-loop : tie.InvT-loop
-Inv-loop image c₀ c = Fits image c × (restOf image c₀ ≡ restOf image c) × (ahead c ≤ ahead c₀)
+Inv-loop image c₀ c =
+    Fits image c × (restOf image c₀ ≡ restOf image c) × (ahead c ≤ ahead c₀)
+    × ((base blocks : ℕ) → Comes image base blocks c₀ → Comes image base blocks c)
 
 abbrev μ-loop : tie.MeasureT-loop
 μ-loop image c₀ c = c .left
@@ -24,7 +26,7 @@ ended : (c : tie.Then1 Inv-loop μ-loop) → endsAt (blockOf (now (c .before .be
 ended c = sym (c .before .ends .ensures) ∙ c .if1 .taken
 
 loop-holds : tie.Need-loop-holds Inv-loop μ-loop
-loop-holds c = (c .before .pre, refl, omega arith)
+loop-holds c = (c .before .pre, refl, omega arith, λ base blocks k. k)
 
 ends-requires : tie.Need-ends-requires Inv-loop μ-loop
 ends-requires c κs = c .loop .inv .0
@@ -49,7 +51,7 @@ loop-again c =
     let b = c .before .before .before .before in
     let l = b .before .before .loop in
     let next = next-block (now (b .before .before .before .before .args .image)) (l .c) (l .inv .0) (ended b) (c .before .before .if2 .left) in
-    (record { blocks = omega arith; place = omega arith }, l .inv .1 ∙ next, omega arith)
+    (record { blocks = omega arith; place = omega arith }, l .inv .1 ∙ next, omega arith, λ base blocks k. comes-block (now (b .before .before .before .before .args .image)) (l .c) base blocks (c .before .before .if2 .left) (l .inv .3 base blocks k))
 
 entry-requires : tie.Need-entry-requires Inv-loop μ-loop
 entry-requires c κs = (c .before .before .loop .inv .0, sym (c .before .ends .ensures) ∙ c .if1 .left)
@@ -58,7 +60,7 @@ returns-2 : tie.Need-returns-2 Inv-loop μ-loop
 returns-2 c =
     let l = c .before .before .before .loop in
     let a = c .before .before .before .before .before .args in
-    stepped-from (now (a .image)) (l .c) (a .self) (l .inv .1) (l .inv .2) (c .entry .result) (c .entry .ensures)
+    stepped-from (now (a .image)) (l .c) (a .self) (l .inv .1) (l .inv .2) (l .inv .3) (c .entry .result) (c .entry .ensures)
 
 pub next-spec : {M : Type 1} → statement M
 next-spec =

@@ -1,5 +1,5 @@
--- `find` meets its contract. The loop's invariant: the name is among all entries where it is among those from c on, the same one
--- is the first that has it, and its place is counted on from there. Assumes nothing.
+-- `locate` meets its contract. The loop's invariant: the name is among all entries where it is among those from c on, the same one
+-- is the first that has it, its place is counted on from there, and the directory's reading comes to c. Assumes nothing.
 use Prim.Native.Nat.{ℕ, _+_, _≤_}
 use mathlib.Core.Path.{_≡_, refl, sym, ap, _∙_}
 use mathlib.Core.Bool.{Bool}
@@ -8,11 +8,12 @@ use native.Mathlib.Omega.{arith}
 use denote.Ref.{now}
 use Rattle.model.specs.Lists.{any, first, placeOf}
 use Rattle.model.specs.Directory.{named}
-use Rattle.directory.specs.Cursor.{restOf, Passes, ahead, bytesAt, Moves}
+use Rattle.directory.specs.Cursor.{restOf, Passes, ahead, bytesAt, Comes, Moves}
+use Rattle.directory.specs.Search.{Named}
 use Rattle.directory.proofs.Each.{moved, ended, failed, passes-more, never-fails, any-pass, any-fail, first-pass, first-fail, place-pass, place-fail}
 use borrow.Author.Needs.{needs}
-use Rattle.directory.proofs.search.find.Statement.{statement}
-use Rattle.directory.proofs.search.find.Tie as tie
+use Rattle.directory.proofs.search.locate.Statement.{statement}
+use Rattle.directory.proofs.search.locate.Tie as tie
 
 abbrev Inv-loop : tie.InvT-loop
 Inv-loop image name c₀ place₀ c place =
@@ -20,6 +21,7 @@ Inv-loop image name c₀ place₀ c place =
     × (any (named name) (restOf image c₀) ≡ any (named name) (restOf image c))
     × (first (named name) [] (restOf image c₀) ≡ first (named name) [] (restOf image c))
     × (placeOf (named name) (restOf image c₀) ≡ place + placeOf (named name) (restOf image c))
+    × ((base blocks : ℕ) → Comes image base blocks c₀ → Comes image base blocks c)
 
 abbrev μ-loop : tie.MeasureT-loop
 μ-loop image name c₀ place₀ c place = ahead c
@@ -38,7 +40,7 @@ abbrev test : tie.After-e Inv-loop μ-loop → List ℕ → Bool
 test c = named (now (c .before .before .before .before .before .before .args .name))
 
 loop-holds : tie.Need-loop-holds Inv-loop μ-loop
-loop-holds c = (c .before .before .pre, omega arith, refl, refl, omega arith)
+loop-holds c = (c .before .before .pre, omega arith, refl, refl, omega arith, λ base blocks k. k)
 
 next-requires : tie.Need-next-requires Inv-loop μ-loop
 next-requires c κs = c .loop .inv .0 .fits
@@ -56,12 +58,14 @@ returns c =
     let has = sym (c .before .has-name .ensures) ∙ c .if1 .taken in
     let m = step k in
     let place = ap (placeOf (test k)) (m .rest) ∙ place-pass (test k) (bytes k) (rest k) has in
-    record {
+    let found : Named (now (k .before .before .before .before .before .before .args .image)) (now (k .before .before .before .before .before .before .args .name)) (restOf (now (k .before .before .before .before .before .before .args .image)) (k .before .before .before .before .before .before .args .from)) (l .place) (k .e .given .0 .0)
+    = record {
       exists = l .inv .2 ∙ ap (any (test k)) (m .rest) ∙ any-pass (test k) (bytes k) (rest k) has;
       there = omega arith;
       bytes = sym (l .inv .3 ∙ ap (first (test k) []) (m .rest) ∙ first-pass (test k) (bytes k) (rest k) [] has);
       stands = m .stands;
-    }
+    } in
+    (found, λ base blocks h. m .lies base blocks (l .inv .5 base blocks h))
 
 add-place : tie.Need-add-place Inv-loop μ-loop
 add-place c = omega (arith, step (c .before .before .before))
@@ -79,7 +83,7 @@ loop-again c =
     let exists = ap (any (test k)) (m .rest) ∙ any-fail (test k) (bytes k) (rest k) not in
     let same = ap (first (test k) []) (m .rest) ∙ first-fail (test k) (bytes k) (rest k) [] not in
     let place = ap (placeOf (test k)) (m .rest) ∙ place-fail (test k) (bytes k) (rest k) not in
-    (pass, omega arith, l .loop .inv .2 ∙ exists, l .loop .inv .3 ∙ same, omega arith)
+    (pass, omega arith, l .loop .inv .2 ∙ exists, l .loop .inv .3 ∙ same, omega arith, λ base blocks h. m .comes base blocks (l .loop .inv .5 base blocks h))
 
 enum-told : tie.Need-enum-told Inv-loop μ-loop
 enum-told c = search needs
@@ -91,7 +95,7 @@ returns-2 c =
     let l = n .before .loop in
     let a = n .before .before .before .before .args in
     let none = ended (now (a .image)) (l .c) (n .next .result) (n .next .ensures) (c .enum-told .given .1) in
-    l .inv .2 ∙ ap (any (named (now (a .name)))) none
+    (l .inv .2 ∙ ap (any (named (now (a .name)))) none, tt)
 
 enum-told-2 : tie.Need-enum-told-2 Inv-loop μ-loop
 enum-told-2 c = search needs
@@ -103,8 +107,8 @@ returns-3 c =
     let image = now (n .before .before .before .before .args .image) in
     absurd (never-fails image (l .c) (l .inv .0) (failed image (l .c) (n .next .result) (n .next .ensures) (c .enum-told2 .given .1)))
 
-pub find-spec : {M : Type 1} → statement M
-find-spec =
+pub locate-spec : {M : Type 1} → statement M
+locate-spec =
     tie.close
     (tie.spec
     Inv-loop
