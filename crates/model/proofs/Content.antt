@@ -12,7 +12,7 @@ use Rattle.model.specs.Lists.{times}
 use Rattle.model.specs.Bytes.{byte, part, half}
 use Rattle.model.specs.Facts.{blockByte}
 use Rattle.model.specs.Calls.{bytesOf, putBlocks, putContent, fewest}
-use Rattle.model.specs.History.{overwritten}
+use Rattle.model.specs.Bytes.{overwritten}
 use Rattle.model.proofs.Times.{times-head, times-tail}
 use Rattle.model.proofs.Entries.{Clear}
 use Rattle.model.proofs.Stores.{half-same}

@@ -14,7 +14,7 @@ use Rattle.model.specs.Map.{mapEntry, freeBlocks, putChain, putFree}
 use Rattle.model.specs.Directory.{padded, directoryBlocks, listing, directory, numberIn, nameIn, inUse, forkOf, forkBlocks, named}
 use Rattle.model.specs.Check.{goodEntry, sameNames, fires6, fires7}
 use Rattle.model.specs.Calls.{hasRoom, placed, removed, onNamed, rewritten, withDirectory, withFiles, withNext, withFree, withFork, fewest, grown, needed, putContent, newEntry, created, written, shortened, deleted}
-use Rattle.model.specs.History.{Within}
+use Rattle.model.specs.Bytes.{Within}
 use Rattle.model.specs.declared.VolumeFacts.{VolumeFacts}
 use Rattle.model.specs.declared.ForkFacts.{ForkFacts}
 use Rattle.model.specs.declared.Fork.{Fork}

@@ -15,7 +15,7 @@ use Rattle.model.specs.Map.{entryByte, mapEntry}
 use Rattle.model.specs.Directory.{cutBlocks, directoryBlocks, listing, directory}
 use Rattle.model.specs.Check.{goodEntry}
 use Rattle.model.specs.Calls.{withDirectory, withFiles, withNext, withFree}
-use Rattle.model.specs.History.{Within}
+use Rattle.model.specs.Bytes.{Within}
 use Rattle.model.specs.declared.VolumeFacts.{VolumeFacts}
 use Rattle.model.proofs.Lists.{flat-append}
 use Rattle.model.proofs.Stores.{sets-before, sets-behind, drop-sets, paste-before, paste-behind, be16-same, be32-same, part-same, be16-drop, be32-drop, be16-sets, be32-sets, half-sets-before, half-sets-behind, half-paste-before, half-paste-behind}

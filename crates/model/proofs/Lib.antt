@@ -25,15 +25,4 @@ pub mod Places
 pub mod Image
 pub mod DirectorySteps
 pub mod Calls
-pub mod Answers
-pub mod Reading
-pub mod Joined
-pub mod Rewrites
-pub mod Writes
-pub mod Cuts
-pub mod Deletes
-pub mod Creates
-pub mod BytesKept
-pub mod Run
-pub mod Corollaries
 pub mod Cases

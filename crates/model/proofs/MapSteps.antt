@@ -16,7 +16,7 @@ use Rattle.model.specs.Map.{mapEntry, chainBlocks, freeBlocks, putChain,
 use Rattle.model.specs.Directory.{blockCount, forkBlocks}
 use Rattle.model.specs.Check.{SoundFacts}
 use Rattle.model.specs.Calls.{fewest, grown, needed, bytesOf, forkBytes, putContent}
-use Rattle.model.specs.History.{overwritten, Within}
+use Rattle.model.specs.Bytes.{overwritten, Within}
 use Rattle.model.specs.declared.VolumeFacts.{VolumeFacts}
 use Rattle.model.specs.declared.ForkFacts.{ForkFacts}
 use Rattle.model.proofs.Times.{times-append}

@@ -1,5 +1,5 @@
 -- Bytes, big-endian numbers and half-bytes.
-use Prim.Native.Nat.{ℕ, zero, suc, _+_, _*_, _/_, _%_, _<_}
+use Prim.Native.Nat.{ℕ, zero, suc, _+_, _*_, _/_, _%_, _≤_, _<_}
 use mathlib.Core.Bool.{cond}
 use mathlib.Core.List.{List, [], _∷_, _++_}
 use lib.ListN.{length, getD, take, drop, replicate}
@@ -32,6 +32,14 @@ part q k l = take k (drop q l)
 -- half-byte h: the high half of byte h/2 where h is even, the low half where it is odd
 unfoldable pub half : List ℕ → ℕ → ℕ
 half s h = cond (eqb (h % 2) 0) (byte s (h / 2) / 16) (byte s (h / 2) % 16)
+
+-- half-byte h is one of the k bytes from byte p on
+abbrev pub Within : ℕ → ℕ → ℕ → Type 0
+Within p k h = (2 * p ≤ h) × (h < 2 * p + 2 * k)
+
+-- Write keeps the bytes before o, puts the n given, keeps those from o+n on: what a fork's bytes are after it.
+unfoldable pub overwritten : List ℕ → ℕ → List ℕ → List ℕ
+overwritten old o xs = take o old ++ (xs ++ drop (o + length xs) old)
 
 -- each element is a byte
 unfoldable pub Bytes : List ℕ → Type 0

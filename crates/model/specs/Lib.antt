@@ -5,12 +5,4 @@ pub mod Map
 pub mod Directory
 pub mod Check
 pub mod Calls
-pub mod History
-pub mod Among
-pub mod Untouched
-pub mod Deleting
-pub mod Room
-pub mod InPieces
-pub mod ReadBack
-pub mod EveryList
 pub mod Cases

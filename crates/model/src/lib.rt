@@ -1,13 +1,6 @@
 // The types that the definitions of MFS share with the code, and the statements that the definitions are held to.
 ghost use Rattle.model.specs.Cases.{FurtherCases, PCases};
 ghost use Rattle.model.specs.Check.{VerdictIsAccepted};
-ghost use Rattle.model.specs.Deleting.{Deleting};
-ghost use Rattle.model.specs.EveryList.{EveryList};
-ghost use Rattle.model.specs.History.{EveryRun};
-ghost use Rattle.model.specs.InPieces.{InPieces};
-ghost use Rattle.model.specs.ReadBack.{ReadBack};
-ghost use Rattle.model.specs.Room.{Room};
-ghost use Rattle.model.specs.Untouched.{Untouched};
 
 mod block_numbers;
 mod numbers;
@@ -15,6 +8,8 @@ mod volume_facts;
 
 pub use numbers::be16_at;
 pub use numbers::be32_at;
+pub use numbers::put16_at;
+pub use numbers::put32_at;
 
 // The number of an allocation block: 2 to N + 1.
 pub struct AllocationBlock(pub u16);
@@ -89,43 +84,4 @@ pub fn further_cases()
 // The first check that fires is 0 exactly where the volume is accepted.
 pub fn verdict_is_accepted()
     ensures { λ _. ⌜ VerdictIsAccepted ⌝ }
-{}
-
-// Every list of calls from an accepted image keeps step with its history.
-pub fn every_run()
-    ensures { λ _. ⌜ EveryRun ⌝ }
-{}
-
-// What follows from that for the auditor.
-
-// After any list of calls, a file that no create, write, cut or delete was given the name of is what it was: its bytes, its
-// dates and all the rest.
-pub fn untouched()
-    ensures { λ _. ⌜ Untouched ⌝ }
-{}
-
-// Deleting one file changes no byte and no date of another.
-pub fn deleting()
-    ensures { λ _. ⌜ Deleting ⌝ }
-{}
-
-// "Disk full" is said only where a write needs more new blocks than are free, and no block is hidden: free blocks and the files'
-// blocks together are all blocks of the disk.
-pub fn room()
-    ensures { λ _. ⌜ Room ⌝ }
-{}
-
-// What read gives of a fork that was written in pieces, one behind the other, is the bytes written, in place.
-pub fn in_pieces()
-    ensures { λ _. ⌜ InPieces ⌝ }
-{}
-
-// A read after a write, at the same place and of the same length, gives the bytes written.
-pub fn read_back()
-    ensures { λ _. ⌜ ReadBack ⌝ }
-{}
-
-// No list of calls falls out of the claim: whatever is called has a run, and that run keeps step with its history.
-pub fn every_list()
-    ensures { λ _. ⌜ EveryList ⌝ }
 {}

@@ -18,7 +18,7 @@ use Rattle.model.proofs.Check.{verdict-accepted}
 use Rattle.volume.specs.declared.CheckAnswer.{CheckAnswer}
 use Rattle.volume.specs.Told.{toldCheck}
 use Rattle.volume.specs.Lookup.{Readable}
-use Rattle.volume.proofs.Numbers.{fires-here, passes-here}
+use Rattle.checks.proofs.Numbers.{fires-here, passes-here}
 
 -- ---- the returns of `check`
 

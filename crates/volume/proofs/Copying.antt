@@ -20,8 +20,8 @@ use Rattle.model.proofs.Map.{block-low, block-high, runs-block, runs-rest, chai
 use Rattle.model.proofs.Check.{good-fork, fork-good, fork-block}
 use Rattle.model.proofs.Chains.{good}
 use Rattle.model.proofs.Content.{Inside, length-bytes, part-take}
-use Rattle.model.proofs.Answers.{sound-fork}
-use Rattle.model.proofs.Reading.{area}
+use Rattle.history.proofs.Answers.{sound-fork}
+use Rattle.history.proofs.Reading.{area}
 use Rattle.blockmap.specs.Places.{HasPlace, IsPlace}
 use Rattle.blockmap.proofs.Chains.{chain-most}
 use Rattle.volume.specs.Content.{Copyable}

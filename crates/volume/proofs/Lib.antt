@@ -1,5 +1,3 @@
-pub mod Numbers
-pub mod Claims
 pub mod Checked
 pub mod Copying
 pub mod Filling
@@ -7,4 +5,5 @@ pub mod Growing
 pub mod Octets
 pub mod Lookups
 pub mod Forks
+pub mod Elsewhere
 pub mod Replies

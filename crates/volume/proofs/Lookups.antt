@@ -1,6 +1,6 @@
 -- Laws of the search in an accepted image's directory: the cursor at its first entry, what is found from there on, and what a
 -- name names.
-use Prim.Native.Nat.{ℕ, _≤_, _<_}
+use Prim.Native.Nat.{ℕ, _*_, _≤_, _<_}
 use mathlib.Core.Path.{_≡_}
 use mathlib.Core.Bool.{true, false}
 use mathlib.Core.List.{List}
@@ -13,8 +13,9 @@ use Rattle.model.specs.Directory.{directory, named}
 use Rattle.model.specs.Calls.{badName}
 use Rattle.model.proofs.Check.{accepted-passes}
 use Rattle.directory.specs.Cursor.{restOf, Passes, Begins}
-use Rattle.directory.specs.Search.{Finds, Gives, Placed}
+use Rattle.directory.specs.Search.{Finds, Located, Gives, Placed}
 use Rattle.directory.proofs.Whole.{begins-directory, sound-passes}
+use Rattle.directory.proofs.Located.{begins-comes}
 use Rattle.model.specs.declared.VolumeFacts.{VolumeFacts}
 use Rattle.directory.specs.declared.Cursor.{Cursor}
 use Rattle.directory.specs.declared.EntryAt.{EntryAt}
@@ -75,9 +76,15 @@ module _ {f : VolumeFacts} {image : List ℕ} (r : Readable f image) where
       pub given-none : s ≡ found.Nothing → length (directory image) ≤ asked
       given-none p = rw first-rest at (rw p at h)
 
-    module _ (name : List ℕ) (s : sort.Found) (h : Finds image name (restOf image c) s) (good : badName name ≡ false) where
+    module _ (name : List ℕ) (s : sort.Found) (h : Finds image name (restOf image c) s) (l : Located image c s) (good : badName name ≡ false) where
       pub found-at : (place : ℕ) (e : EntryAt) → s ≡ found.At place e → Found image name place e
-      found-at place e p = record { title = good; there = rw first-rest at (rw p at h) }
+      found-at place e p =
+          let f′ = factsOf image in
+          record {
+            title = good;
+            there = rw first-rest at (rw p at h);
+            lies = (rw p at l) (512 * dirStart f′) (dirLength f′) (begins-comes image (dirStart f′) (dirLength f′) c begins);
+          }
 
       pub found-none : s ≡ found.Nothing → Missed image name 13
       found-none p =

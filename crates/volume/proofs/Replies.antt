@@ -17,8 +17,8 @@ use Rattle.model.specs.Calls.{forkBytes, readCount, copied, change, only, lent,
 use Rattle.model.specs.Calls.Call.{entry, find, block, read}
 use Rattle.model.proofs.Check.{accepted-verdict}
 use Rattle.model.proofs.Calls.{by-volume, by-own, does-refuse, does-serve}
-use Rattle.model.proofs.Answers.{own-is, named-length}
-use Rattle.model.proofs.Reading.{lengths}
+use Rattle.history.proofs.Answers.{own-is, named-length}
+use Rattle.history.proofs.Reading.{lengths}
 use Rattle.blockmap.specs.Places.{IsPlace}
 use Rattle.directory.specs.Cursor.{bytesAt}
 use Rattle.directory.specs.Search.{Placed}

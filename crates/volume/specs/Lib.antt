@@ -1,5 +1,6 @@
 pub mod Told
-pub mod Numbers
 pub mod Lookup
 pub mod Content
 pub mod Growth
+pub mod Adding
+pub mod Leaves

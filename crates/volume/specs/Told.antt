@@ -3,7 +3,7 @@ use Prim.Native.Nat.{ℕ}
 use mathlib.Core.List.{List, []}
 use Rattle.model.specs.Facts.{noFacts}
 use Rattle.model.specs.Directory.{noEntry}
-use Rattle.model.specs.Calls.{Answer}
+use Rattle.model.specs.Calls.{Answer, only}
 use Rattle.volume.specs.declared.CheckAnswer.{CheckAnswer}
 use Rattle.volume.specs.declared.EntryAnswer.{EntryAnswer}
 use Rattle.volume.specs.declared.FindAnswer.{FindAnswer}
@@ -25,3 +25,7 @@ toldBlock r = record { number = r .number; facts = noFacts; place = 0; entry = n
 -- read's buffer after it is part of the answer
 abbrev pub toldRead : ReadAnswer → List ℕ → Answer
 toldRead r buffer = record { number = r .number; facts = noFacts; place = 0; entry = noEntry; block = record { 0 = 0 }; count = r .count; buffer = buffer }
+
+-- the calls that change the image give back their number alone
+abbrev pub toldNumber : ℕ → Answer
+toldNumber n = only n []

@@ -1,21 +1,22 @@
 // The calls on a volume. Each checks the image itself, and states its answer and every byte that it leaves.
 mod answers;
+mod checking;
 mod content;
+mod counts;
 mod limits;
 mod lookup;
 mod reading;
 mod serving;
-mod verdict;
 
 use directory::EntryAt;
 use model::AllocationBlock;
 use model::DirectoryEntry;
 use model::VolumeFacts;
+pub use checking::check;
 pub use reading::block;
 pub use reading::entry;
 pub use reading::find;
 pub use reading::read;
-pub use verdict::check;
 
 // Each answer begins with its number: 0, or that of the refusal, and then all else is zero.
 pub struct CheckAnswer {

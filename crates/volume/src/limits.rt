@@ -35,7 +35,7 @@ pub fn file_locked(image: &[u8], e: EntryAt) -> bool
     image[at] % 2 == 1
 }
 
-fn larger(a: usize, b: usize) -> usize
+pub fn larger(a: usize, b: usize) -> usize
     ensures { λ r. ⌜ r ≡ max a b ⌝ }
 {
     if a < b {

@@ -28,7 +28,7 @@ pub fn lookup(image: &[u8], f: VolumeFacts, name: &[u8]) -> Named
     if 255 < name.len() {
         return Named::Refused(12);
     }
-    match directory::find(image, first_entry(f), name) {
+    match directory::locate(image, first_entry(f), name) {
         Found::At(place, e) => Named::At(place, e),
         Found::Nothing => Named::Refused(13),
     }

@@ -10,7 +10,7 @@ use crate::serving::serve_block;
 use crate::serving::serve_entry;
 use crate::serving::serve_find;
 use crate::serving::serve_read;
-use crate::verdict::check;
+use crate::checking::check;
 use model::AllocationBlock;
 use model::Fork;
 

@@ -21,8 +21,8 @@ returns-2 c =
 first-entry-requires : tie.Need-first-entry-requires
 first-entry-requires c κs = some-block (c .before .before .before .before .pre)
 
-find-requires : tie.Need-find-requires
-find-requires c κs = first-passes (c .before .before .before .before .before .pre) (c .first-entry .result) (c .first-entry .ensures)
+locate-requires : tie.Need-locate-requires
+locate-requires c κs = first-passes (c .before .before .before .before .before .pre) (c .first-entry .result) (c .first-entry .ensures)
 
 enum-known-place : tie.Need-enum-known-place
 enum-known-place c = search needs
@@ -38,14 +38,14 @@ returns-3 c =
     let f = c .before .before .before in
     let k = f .before in
     let s = k .before .before .before .before .before in
-    found-at (s .pre) (k .first-entry .result) (k .first-entry .ensures) (now (s .args .name)) (f .find .result) (f .find .ensures) (good (k .before)) _ _ (c .before .place .given .1)
+    found-at (s .pre) (k .first-entry .result) (k .first-entry .ensures) (now (s .args .name)) (f .locate .result) (f .locate .ensures .0) (f .locate .ensures .1) (good (k .before)) _ _ (c .before .place .given .1)
 
 returns-4 : tie.Need-returns-4
 returns-4 c =
     let f = c .before .before in
     let k = f .before in
     let s = k .before .before .before .before .before in
-    found-none (s .pre) (k .first-entry .result) (k .first-entry .ensures) (now (s .args .name)) (f .find .result) (f .find .ensures) (good (k .before)) (c .enum-told .given .1)
+    found-none (s .pre) (k .first-entry .result) (k .first-entry .ensures) (now (s .args .name)) (f .locate .result) (f .locate .ensures .0) (f .locate .ensures .1) (good (k .before)) (c .enum-told .given .1)
 
 pub lookup-spec : {M : Type 1} → statement M
 lookup-spec =
@@ -54,7 +54,7 @@ lookup-spec =
     returns
     returns-2
     first-entry-requires
-    find-requires
+    locate-requires
     enum-known-place
     enum-told
     returns-3

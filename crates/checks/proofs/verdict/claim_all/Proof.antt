@@ -1,0 +1,134 @@
+-- `claim_all` meets its contract. The loop's invariant: to claim all forks is to claim those from c on, from the marks as they are.
+-- Assumes nothing.
+use Prim.Native.Nat.{ℕ}
+use mathlib.Core.List.{List, _∷_}
+use denote.Ref.{now}
+use borrow.Author.Tests.{not-true, not-false}
+use Rattle.model.specs.Map.{mapEntry}
+use Rattle.model.specs.Directory.{forkOf, forksIn}
+use Rattle.model.specs.declared.ForkFacts.{ForkFacts}
+use Rattle.model.specs.declared.Fork.the-variants.{Data, Resource}
+use Rattle.directory.specs.Cursor.{restOf, Passes, ahead, bytesAt, Moves}
+use Rattle.directory.proofs.Each.{moved, ended, failed, passes-more, never-fails}
+use Rattle.checks.proofs.Claims.{Onward, onward-none, onward-same, onward-end, onward-claim, onward-not, forks-more, forks-none}
+use borrow.Author.Needs.{needs}
+use Rattle.checks.proofs.verdict.claim_all.Statement.{statement}
+use Rattle.checks.proofs.verdict.claim_all.Tie as tie
+
+abbrev Inv-loop : tie.InvT-loop
+Inv-loop image n a marks₀ c₀ marks c = Passes image c × Onward (mapEntry image) n a marks₀ (forksIn (restOf image c₀)) marks (forksIn (restOf image c))
+
+abbrev μ-loop : tie.MeasureT-loop
+μ-loop image n a marks₀ c₀ marks c = ahead c
+
+-- the step to the next entry, its bytes, and the entries behind it
+step : (c : tie.After-e Inv-loop μ-loop) → Moves (now (c .before .before .before .before .before .args .image)) (c .before .before .before .loop .c) (c .e .given .0 .0) (c .e .given .0 .1 .0)
+step c = let n = c .before .before in moved (now (n .before .before .before .args .image)) (n .before .loop .c) (n .next .result) (n .next .ensures) _ _ (c .e .given .1)
+
+abbrev bytes : tie.After-e Inv-loop μ-loop → List ℕ
+bytes c = bytesAt (now (c .before .before .before .before .before .args .image)) (c .e .given .0 .0)
+
+abbrev rest : tie.After-e Inv-loop μ-loop → List (List ℕ)
+rest c = restOf (now (c .before .before .before .before .before .args .image)) (c .e .given .0 .1 .0)
+
+-- to claim all forks is to claim these from the marks u
+abbrev Left : tie.After-e Inv-loop μ-loop → List ℕ → List ForkFacts → Type 0
+Left c u hs = let a = c .before .before .before .before .before .args in Onward (mapEntry (now (a .image))) (a .n) (a .a) (now (a .marks)) (forksIn (restOf (now (a .image)) (a .from))) u hs
+
+-- before the entry's data fork is claimed
+first : (c : tie.After-e Inv-loop μ-loop) → Left c (c .before .before .before .loop .marks) (forkOf Data (bytes c) ∷ forkOf Resource (bytes c) ∷ forksIn (rest c))
+first c = onward-same _ _ _ _ _ _ (c .before .before .before .loop .inv .1) (forks-more _ _ _ (step c .rest))
+
+-- and behind it
+second : (c : tie.Else1 Inv-loop μ-loop) → let k = c .before .before .before .before .before in Left k (c .before .claim-fork .last .1 .1 .1 .1 .0) (forkOf Resource (bytes k) ∷ forksIn (rest k))
+second c =
+    let claim = c .before in
+    let read = claim .before .before in
+    onward-claim _ _ _ _ _ _ _ _ _ (first (read .before .before)) (read .read-fork .ensures) _ (claim .claim-fork .ensures .0) _ (not-false _ (c .if1 .left)) (claim .claim-fork .ensures .1)
+
+loop-holds : tie.Need-loop-holds Inv-loop μ-loop
+loop-holds c = (c .before .pre .1, onward-none _ _ _ _ _)
+
+next-requires : tie.Need-next-requires Inv-loop μ-loop
+next-requires c κs = c .loop .inv .0 .fits
+
+enum-known-e : tie.Need-enum-known-e Inv-loop μ-loop
+enum-known-e c = search needs
+
+read-fork-requires : tie.Need-read-fork-requires Inv-loop μ-loop
+read-fork-requires c κs = step (c .before) .stands
+
+claim-fork-requires : tie.Need-claim-fork-requires Inv-loop μ-loop
+claim-fork-requires c κs = c .before .before .before .before .before .before .before .before .pre .0
+
+returns : tie.Need-returns Inv-loop μ-loop
+returns c =
+    let claim = c .before in
+    let read = claim .before .before in
+    onward-not _ _ _ _ _ _ _ _ _ (first (read .before .before)) (read .read-fork .ensures) _ (claim .claim-fork .ensures .0) _ (not-true _ (c .if1 .taken))
+
+read-fork-requires-2 : tie.Need-read-fork-requires-2 Inv-loop μ-loop
+read-fork-requires-2 c κs = step (c .before .before .before .before .before) .stands
+
+claim-fork-requires-2 : tie.Need-claim-fork-requires-2 Inv-loop μ-loop
+claim-fork-requires-2 c κs = c .before .before .before .before .before .before .before .before .before .before .before .before .pre .0
+
+returns-2 : tie.Need-returns-2 Inv-loop μ-loop
+returns-2 c =
+    let claim = c .before in
+    let read = claim .before .before in
+    onward-not _ _ _ _ _ _ _ _ _ (second (read .before)) (read .read-fork2 .ensures) _ (claim .claim-fork2 .ensures .0) _ (not-true _ (c .if2 .taken))
+
+loop-less : tie.Need-loop-less Inv-loop μ-loop
+loop-less c = step (c .before .before .before .before .before .before .before .before .before) .less
+
+loop-again : tie.Need-loop-again Inv-loop μ-loop
+loop-again c =
+    let claim = c .before in
+    let read = claim .before .before in
+    let k = read .before .before .before .before .before .before in
+    let l = k .before .before .before in (
+      passes-more (now (l .before .before .args .image)) (l .loop .c) (l .loop .inv .0) _ _ (step k),
+      onward-claim _ _ _ _ _ _ _ _ _ (second (read .before)) (read .read-fork2 .ensures) _ (claim .claim-fork2 .ensures .0) _ (not-false _ (c .if2 .left)) (claim .claim-fork2 .ensures .1),
+    )
+
+enum-told : tie.Need-enum-told Inv-loop μ-loop
+enum-told c = search needs
+
+returns-3 : tie.Need-returns-3 Inv-loop μ-loop
+returns-3 c =
+    let n = c .before .before in
+    let l = n .before .loop in
+    onward-end _ _ _ _ _ _ (onward-same _ _ _ _ _ _ (l .inv .1) (forks-none _ (ended _ _ (n .next .result) (n .next .ensures) (c .enum-told .given .1))))
+
+enum-told-2 : tie.Need-enum-told-2 Inv-loop μ-loop
+enum-told-2 c = search needs
+
+returns-4 : tie.Need-returns-4 Inv-loop μ-loop
+returns-4 c =
+    let n = c .before .before in
+    let l = n .before .loop in
+    let image = now (n .before .before .before .args .image) in
+    absurd (never-fails image (l .c) (l .inv .0) (failed image (l .c) (n .next .result) (n .next .ensures) (c .enum-told2 .given .1)))
+
+pub claim-all-spec : {M : Type 1} → statement M
+claim-all-spec =
+    tie.close
+    (tie.spec
+    Inv-loop
+    μ-loop
+    loop-holds
+    next-requires
+    enum-known-e
+    read-fork-requires
+    claim-fork-requires
+    returns
+    read-fork-requires-2
+    claim-fork-requires-2
+    returns-2
+    loop-less
+    loop-again
+    enum-told
+    returns-3
+    enum-told-2
+    returns-4)

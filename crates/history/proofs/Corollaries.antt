@@ -1,0 +1,376 @@
+-- What the auditor asks, from the claim on every run: a file that no call names stays, a delete touches no other file, "disk
+-- full" means no room, a read gives what was written, and no list of calls falls out of the claim.
+use Prim.Native.Nat.{ℕ, zero, suc, _+_, _-_, _≤_, _<_}
+use mathlib.Core.Path.{_≡_, refl, sym, ap, subst, _∙_}
+use mathlib.Core.Bool.{Bool, true, false, not, _&&_, _||_, cond}
+use mathlib.Core.List.{List, [], _∷_, _++_, map, append-assoc, append-nil}
+use native.Mathlib.Omega.{arith}
+use lib.ListN.{length, getD, take, drop, length-append, List·getD-append}
+use lib.Seq.{length-take-le, drop-append-le, drop-length, take-append-seam}
+use lib.Dec.{eqb, ltb}
+use borrow.Author.Tests.{not-false, eqb-true, eq-eqb, ltb-false, le-ltb}
+use Rattle.model.specs.Lists.{any, keep, first, flat, Reordered, none, next, swap, then}
+use Rattle.model.specs.Bytes.{Bytes, part}
+use Rattle.model.specs.Facts.{factsOf, N, A, freeCount}
+use Rattle.model.specs.Map.{mapEntry}
+use Rattle.model.specs.Directory.{directory, forkOf, forksIn, blockCount, sameName}
+use Rattle.model.specs.Check.{Accepted}
+use Rattle.model.specs.Calls.{Call, nameOf, forkGiven, Known, badName, refuses, entryNamed, knownIn, readCount, copied, answer, after, lent, Does}
+use Rattle.model.specs.Calls.Call.{check, entry, find, block, read, create, write, cut, delete}
+use Rattle.history.specs.History.{File, History, noFile, heldOf, called, fileCalled, knownTo, declines, writes}
+use Rattle.model.specs.Bytes.{overwritten}
+use Rattle.history.specs.History.{changedFork, onCalled, moves, step, Told, toldBy, toldOnly, says, tells, filesIn, reading, Agrees, Event, Run}
+use Rattle.history.specs.History.{isFull, asked, changes, RoomRule, Step, Holds, EveryRun}
+use Rattle.history.specs.Among.{Has, lastImage}
+use Rattle.history.specs.Untouched.{NoneNames, Untouched}
+use Rattle.history.specs.Deleting.{Deleting}
+use Rattle.history.specs.Room.{Room}
+use Rattle.history.specs.InPieces.{Writes, InPieces}
+use Rattle.history.specs.ReadBack.{ReadBack}
+use Rattle.history.specs.EveryList.{made, AllFit, EveryList}
+use Rattle.model.specs.declared.Fork.{Fork}
+use Rattle.model.specs.declared.Fork.the-variants.{Data, Resource}
+use Rattle.model.proofs.Lists.{back}
+use Rattle.model.proofs.Reorder.{any-map}
+use Rattle.model.proofs.Check.{else-zero}
+use Rattle.model.proofs.Content.{drop-take}
+use Rattle.model.proofs.MapChecks.{all-blocks}
+use Rattle.history.proofs.Answers.{length-overwritten, rise-needed, same-free, known-same}
+use Rattle.history.proofs.Reading.{map-passes, lengths, blocks-of}
+use Rattle.history.proofs.Run.{every-run}
+
+-- the claim on a list of one event
+one-step : (e : Event) (image : List ℕ) → Accepted image → Does (e .call) image (e .given) (e .left) → Step e image (reading image)
+unfolding EveryRun Run Holds
+one-step e image acc m = let h : Holds image (reading image) (e ∷ []) = every-run image (e ∷ []) acc (m, tt) .1 in h .0
+
+-- ---- Untouched and Deleting
+
+-- an element that a list has at some place is in the list in another order, in its map where the map leaves it, among those kept
+-- where it is kept, and in a longer list
+module _ {A : Type 0} (d x : A) where
+  abbrev In : List A → Type 0
+  In xs = (i : ℕ) × (i < length xs) × (getD xs i d ≡ x)
+
+  later : (y : A) (xs : List A) → In xs → In (y ∷ xs)
+  later y xs h = (suc (h .0), omega (arith, h .1), h .2)
+
+  in-reordered : {xs ys : List A} → Reordered xs ys → In xs → In ys
+  in-reordered r h = go r (h .0) (h .1) (h .2)
+    where
+      go : {xs ys : List A} → Reordered xs ys → (i : ℕ) → i < length xs → getD xs i d ≡ x → In ys
+      go none i l e = (i, l, e)
+      go (next y r) zero l e = (0, omega arith, e)
+      go (next y {xs} {ys} r) (suc i) l e = later y ys (go r i (omega arith) e)
+      go (swap y z xs) zero l e = (1, omega arith, e)
+      go (swap y z xs) (suc zero) l e = (0, omega arith, e)
+      go (swap y z xs) (suc (suc i)) l e = (suc (suc i), l, e)
+      go (then r s) i l e = let k = go r i l e in go s (k .0) (k .1) (k .2)
+
+  in-map : (f : A → A) → f x ≡ x → (xs : List A) → In xs → In (map f xs)
+  in-map f w xs h = go xs (h .0) (h .1) (h .2)
+    where
+      go : (xs : List A) (i : ℕ) → i < length xs → getD xs i d ≡ x → In (map f xs)
+      go [] i l e = absurd (omega arith)
+      go (y ∷ xs) zero l e = (0, omega arith, ap f e ∙ w)
+      go (y ∷ xs) (suc i) l e = later (f y) (map f xs) (go xs i (omega arith) e)
+
+  in-keep : (p : A → Bool) → p x ≡ true → (xs : List A) → In xs → In (keep p xs)
+  unfolding keep
+  in-keep p w xs h = go xs (h .0) (h .1) (h .2)
+    where
+      kept : (y : A) (xs : List A) (b : Bool) → In (keep p xs) → In (cond b (y ∷ keep p xs) (keep p xs))
+      kept y xs true h = later y (keep p xs) h
+      kept y xs false h = h
+
+      go : (xs : List A) (i : ℕ) → i < length xs → getD xs i d ≡ x → In (keep p xs)
+      go [] i l e = absurd (omega arith)
+      go (y ∷ xs) zero l e = rw (ap p e ∙ w) (0, omega arith, e)
+      go (y ∷ xs) (suc i) l e = kept y xs (p y) (go xs i (omega arith) e)
+
+  in-append : (xs ys : List A) → In xs → In (xs ++ ys)
+  in-append xs ys h = (h .0, omega (arith, h .1, length-append xs ys), List·getD-append xs ys d (h .0) (h .1) ∙ h .2)
+
+-- a file that no changing call names stays in the history
+not-called : (name : List ℕ) (f : File → File) (x : File) → called name x ≡ false → onCalled name f x ≡ x
+unfolding onCalled
+not-called name f x n = rw n
+
+moves-keep : (h : History) (call : Call) (x : File) → (changes call && called (nameOf call) x) ≡ false → In noFile x (h .files) → In noFile x (moves h call .files)
+unfolding moves changes nameOf
+moves-keep h check x n i = i
+moves-keep h (entry place) x n i = i
+moves-keep h (find name) x n i = i
+moves-keep h (block name fork place) x n i = i
+moves-keep h (read name fork offset buffer) x n i = i
+moves-keep h (create name finder created changed) x n i = in-append noFile x (h .files) _ i
+moves-keep h (write name fork offset bytes changed) x n i = in-map noFile x _ (not-called name _ x n) (h .files) i
+moves-keep h (cut name fork size changed) x n i = in-map noFile x _ (not-called name _ x n) (h .files) i
+moves-keep h (delete name) x n i = in-keep noFile x (λ y. not (called name y)) (rw n) (h .files) i
+
+step-keeps : (h : History) (full : Bool) (call : Call) (x : File) → (changes call && called (nameOf call) x) ≡ false → In noFile x (h .files)
+    → In noFile x (step h full call .files)
+unfolding step
+step-keeps h full call x n i = go (eqb (declines h full call) 0)
+  where
+    go : (b : Bool) → In noFile x (cond b (moves h call) h .files)
+    go true = moves-keep h call x n i
+    go false = i
+
+stays : (events : List Event) (image : List ℕ) (h : History) (x : File) → Agrees image h → Holds image h events → NoneNames (x .name) events
+    → In noFile x (h .files) → Has (lastImage image events) x
+unfolding Holds NoneNames lastImage called
+stays [] image h x a s n i = in-reordered noFile x (back (a .files)) i
+stays (e ∷ events) image h x a s n i =
+    stays events (e .left) (step h (isFull e) (e .call)) x (s .0 .agrees) (s .1) (n .1) (step-keeps h (isFull e) (e .call) x (n .0) i)
+
+pub untouched : Untouched
+unfolding Untouched EveryRun reading
+untouched image events x acc r i n =
+    let c = every-run image events acc r in
+    stays events image (reading image) x (c .0) (c .1) n i
+
+pub deleting : Deleting
+unfolding Deleting Untouched Run NoneNames lastImage changes nameOf
+deleting image name left given x acc m n i =
+    let e : Event = record { call = delete name; given = given; left = left } in
+    untouched image (e ∷ []) x acc (m, tt) i (n, tt)
+
+-- ---- Room
+
+pub room : Room
+unfolding Room RoomRule reading knownTo knownIn EveryRun Run filesIn
+room image name fork offset bytes changed given left acc m n =
+    let f = factsOf image in
+    let e : Event = record { call = write name fork offset bytes changed; given = given; left = left } in
+    let h = reading image in
+    let a : Agrees image h = every-run image [] acc tt .0 in
+    let none = one-step e image acc m .room .0 n in
+    let k = known-same image h acc a (lengths image acc) name fork in
+    let held = heldOf fork (fileCalled name h) in
+    let logical : length (held .bytes) ≡ forkOf fork (entryNamed name image) .logical = ap (λ (k : Known). k .logical) k in
+    let blocks : held .count ≡ blockCount (A f) (forkOf fork (entryNamed name image)) = ap (λ (k : Known). k .blocks) k in
+    let need = rw (rise-needed (A f) offset bytes held (none .within), logical, blocks) at (none .exceeds) in (
+      rw (same-free image h a) need,
+      rw (blocks-of f image (directory image)) (all-blocks (mapEntry image) (N f) (A f) (freeCount f) (forksIn (directory image)) (map-passes image acc)),
+    )
+
+-- ---- InPieces and ReadBack
+
+-- a call's number is the history's
+told-number : (h : History) (full : Bool) (n : ℕ) (call : Call) → tells h full n call .number ≡ declines h full call
+unfolding tells toldOnly says
+told-number h full n call = go (declines h full call) (eqb (declines h full call) 0) refl
+  where
+    success : (c : Call) → says h n c .number ≡ 0
+    success check = refl
+    success (entry place) = refl
+    success (find name) = refl
+    success (block name fork place) = refl
+    success (read name fork offset buffer) = refl
+    success (create name finder created changed) = refl
+    success (write name fork offset bytes changed) = refl
+    success (cut name fork size changed) = refl
+    success (delete name) = refl
+
+    go : (r : ℕ) (t : Bool) → eqb r 0 ≡ t → cond t (says h n call) (toldOnly r (lent call)) .number ≡ r
+    go r true e = success call ∙ sym (eqb-true r 0 e)
+    go r false e = refl
+
+declined : (e : Event) (image : List ℕ) (h : History) → Step e image h → e .given .number ≡ declines h (isFull e) (e .call)
+unfolding toldBy
+declined e image h s = ap (λ (t : Told). t .number) (s .told) ∙ told-number h (isFull e) (asked image (e .call)) (e .call)
+
+-- the first that passes, where a map changes those that pass into others that pass
+module _ {A : Type 0} (p : A → Bool) (f : A → A) (w : (x : A) → p (f x) ≡ p x) where
+  passes-still : (x : A) → p (cond (p x) (f x) x) ≡ p x
+  passes-still x = go (p x) refl
+    where
+      go : (b : Bool) → p x ≡ b → p (cond b (f x) x) ≡ p x
+      go true e = w x
+      go false e = refl
+
+  first-changed : (d : A) (xs : List A) → any p xs ≡ true → first p d (map (λ x. cond (p x) (f x) x) xs) ≡ f (first p d xs)
+  unfolding any first
+  first-changed d [] h = absurd (let z : _≡_ {A = ℕ} 0 1 = cc in omega arith)
+  first-changed d (x ∷ xs) h = rw (passes-still x) (go (p x) h (first-changed d xs))
+    where
+      go : (b : Bool) → (b || any p xs) ≡ true
+          → (any p xs ≡ true → first p d (map (λ x. cond (p x) (f x) x) xs) ≡ f (first p d xs))
+          → cond b (cond b (f x) x) (first p d (map (λ x. cond (p x) (f x) x) xs)) ≡ f (cond b x (first p d xs))
+      go true h ih = refl
+      go false h ih = ih h
+
+-- bytes put behind those that a fork has from o on
+more-bytes : (old : List ℕ) (o : ℕ) (sofar xs : List ℕ) → o + length sofar ≤ length old → part o (length sofar) old ≡ sofar
+    → part o (length (sofar ++ xs)) (overwritten old (o + length sofar) xs) ≡ sofar ++ xs
+unfolding overwritten
+more-bytes old o sofar xs l e =
+    let q = o + length sofar in
+    let rest = drop (q + length xs) old in
+    let front : length (take q old) ≡ q = length-take-le q old l in
+    let k : q - o ≡ length sofar = omega arith in
+    let behind : drop o (take q old ++ (xs ++ rest)) ≡ (sofar ++ xs) ++ rest =
+    drop-append-le o (take q old) (xs ++ rest) (omega arith)
+    ∙ ap (λ (z : List ℕ). z ++ (xs ++ rest)) (drop-take o q old ∙ ap (λ (i : ℕ). take i (drop o old)) k ∙ e)
+    ∙ sym (append-assoc sofar xs rest) in
+    ap (take (length (sofar ++ xs))) behind ∙ take-append-seam (sofar ++ xs) rest
+
+-- one fork of one file
+module _ (name : List ℕ) (fork : Fork) where
+  bytesIn : History → List ℕ
+  bytesIn h = heldOf fork (fileCalled name h) .bytes
+
+  -- the fork has these bytes from o on
+  record Holding (h : History) (o : ℕ) (sofar : List ℕ) : Type 0 where
+    titled : badName name ≡ false
+    there : any (called name) (h .files) ≡ true
+    within : o + length sofar ≤ length (bytesIn h)
+    same : part o (length sofar) (bytesIn h) ≡ sofar
+
+  -- a write that is not refused names a file, and begins no further than its fork's end
+  write-allowed : (h : History) (full : Bool) (o : ℕ) (xs : List ℕ) (changed : ℕ) → declines h full (write name fork o xs changed) ≡ 0 → Holding h o []
+  unfolding declines refuses knownTo nameOf forkGiven bytesIn
+  write-allowed h full o xs changed z =
+      let k = knownTo h full name fork in
+      let p₁ = else-zero (k .locked) 10 _ z in
+      let p₂ = else-zero (badName name) 11 _ (p₁ .1) in
+      let p₃ = else-zero (not (k .exists)) 12 _ (p₂ .1) in
+      let p₄ = else-zero (k .fileLocked) 14 _ (p₃ .1) in
+      let p₅ = else-zero (ltb (k .logical) o) 15 _ (p₄ .1) in
+      let l = ltb-false (k .logical) o (p₅ .0) in
+      record { titled = p₂ .0; there = not-false _ (p₃ .0); within = omega arith; same = refl }
+
+  -- the named file after a write
+  module _ (h : History) (o : ℕ) (xs : List ℕ) (changed : ℕ) where
+    rewrites : File → File
+    rewrites x = changedFork fork (writes (A (h .facts)) o xs) changed x
+
+    same-title : (x : File) → called name (rewrites x) ≡ called name x
+    unfolding called rewrites changedFork
+    same-title x = go fork
+      where
+        go : (which : Fork) → sameName name (changedFork which (writes (A (h .facts)) o xs) changed x .name) ≡ sameName name (x .name)
+        go Data = refl
+        go Resource = refl
+
+    new-bytes : (x : File) → heldOf fork (rewrites x) .bytes ≡ overwritten (heldOf fork x .bytes) o xs
+    unfolding rewrites changedFork writes heldOf
+    new-bytes x = go fork
+      where
+        go : (which : Fork) → heldOf which (changedFork which (writes (A (h .facts)) o xs) changed x) .bytes ≡ overwritten (heldOf which x .bytes) o xs
+        go Data = refl
+        go Resource = refl
+
+    still-there : any (called name) (moves h (write name fork o xs changed) .files) ≡ any (called name) (h .files)
+    unfolding moves onCalled rewrites
+    still-there = any-map (called name) (called name) _ (passes-still (called name) rewrites same-title) (h .files)
+
+    written-bytes : any (called name) (h .files) ≡ true → bytesIn (moves h (write name fork o xs changed)) ≡ overwritten (bytesIn h) o xs
+    unfolding bytesIn moves fileCalled onCalled rewrites
+    written-bytes there =
+        ap (λ (x : File). heldOf fork x .bytes) (first-changed (called name) rewrites same-title noFile (h .files) there)
+        ∙ new-bytes (fileCalled name h)
+
+  -- a write behind the bytes that are there
+  write-holds : (h : History) (full : Bool) (o : ℕ) (sofar xs : List ℕ) (changed : ℕ) → Holding h o sofar
+      → declines h full (write name fork (o + length sofar) xs changed) ≡ 0
+      → Holding (step h full (write name fork (o + length sofar) xs changed)) o (sofar ++ xs)
+  unfolding step
+  write-holds h full o sofar xs changed s z =
+      let q = o + length sofar in
+      let b = written-bytes h q xs changed (s .there) in
+      rw (eq-eqb (declines h full (write name fork q xs changed)) 0 z)
+      (record {
+        titled = s .titled;
+        there = still-there h q xs changed ∙ s .there;
+        within = rw (b, length-overwritten (bytesIn h) q xs (s .within), length-append sofar xs) (omega arith);
+        same = rw b (more-bytes (bytesIn h) o sofar xs (s .within) (s .same));
+      })
+
+  -- the pieces, one after the other; then comes one event more
+  pieces-hold : (pieces : List (List ℕ)) (events : List Event) (final : Event) (image : List ℕ) (h : History) (o q : ℕ) (sofar : List ℕ)
+      → Holding h o sofar → o + length sofar ≡ q → Writes name fork q pieces events → Holds image h (events ++ (final ∷ []))
+      → (h′ : History) × Holding h′ o (sofar ++ flat pieces) × Step final (lastImage image events) h′
+  unfolding Writes Holds flat lastImage
+  pieces-hold [] [] final image h o q sofar s p w c = (h, rw append-nil s, c .0)
+  pieces-hold [] (e ∷ events) final image h o q sofar s p w c = absurd w
+  pieces-hold (xs ∷ pieces) [] final image h o q sofar s p w c = absurd w
+  pieces-hold (xs ∷ pieces) (e ∷ events) final image h o q sofar s p w c =
+      let full = isFull e in
+      let call : e .call ≡ write name fork (o + length sofar) xs (w .0 .0) = w .0 .1 ∙ ap (λ (i : ℕ). write name fork i xs (w .0 .0)) (sym p) in
+      let z = sym (declined e image h (c .0)) ∙ w .1 in
+      let n : Holding (step h full (e .call)) o (sofar ++ xs) =
+      subst (λ (k : Call). Holding (step h full k) o (sofar ++ xs)) (sym call)
+      (write-holds h full o sofar xs (w .0 .0) s (subst (λ (k : Call). declines h full k ≡ 0) call z)) in
+      let r = pieces-hold pieces events final (e .left) (step h full (e .call)) o (q + length xs) (sofar ++ xs) n
+      (omega (arith, length-append sofar xs, p)) (w .2) (c .1) in
+      (r .0, rw append-assoc at (r .1), r .2)
+
+  -- the first of the pieces shows that the fork reaches to o
+  first-allowed : (xs : List ℕ) (pieces : List (List ℕ)) (events : List Event) (final : Event) (image : List ℕ) (h : History) (o : ℕ)
+      → Writes name fork o (xs ∷ pieces) events → Holds image h (events ++ (final ∷ [])) → Holding h o []
+  unfolding Writes Holds
+  first-allowed xs pieces [] final image h o w c = absurd w
+  first-allowed xs pieces (e ∷ events) final image h o w c =
+      let z = sym (declined e image h (c .0)) ∙ w .1 in
+      write-allowed h (isFull e) o xs (w .0 .0) (subst (λ (k : Call). declines h (isFull e) k ≡ 0) (w .0 .1) z)
+
+  -- a read of bytes that are there
+  read-holds : (h : History) (o : ℕ) (all : List ℕ) (e : Event) (image buffer : List ℕ) → Holding h o all → e .call ≡ read name fork o buffer → Step e image h
+      → length buffer ≡ length all → (e .given .number ≡ 0) × (e .given .count ≡ length buffer) × (e .given .buffer ≡ all)
+  unfolding toldBy tells says declines refuses knownTo nameOf forkGiven bytesIn readCount copied
+  read-holds h o all e image buffer s call c l =
+      let full = isFull e in
+      let k = read name fork o buffer in
+      let z : declines h full k ≡ 0 = rw (s .titled, s .there, le-ltb (length (bytesIn h)) o (omega (arith, s .within))) refl in
+      let t : toldBy (e .given) ≡ says h (asked image (e .call)) k = c .told ∙ rw call (rw z) in
+      let bytes = bytesIn h in
+      let n : readCount (length buffer) (length bytes) o ≡ length buffer = omega (arith, s .within) in (
+        ap (λ (t : Told). t .number) t,
+        ap (λ (t : Told). t .count) t ∙ n,
+        ap (λ (t : Told). t .buffer) t
+            ∙ ap (λ (i : ℕ). part o i bytes ++ drop i buffer) n
+            ∙ rw (drop-length buffer, append-nil, l) (s .same),
+      )
+
+-- a run with one event more
+run-then : (events : List Event) (image : List ℕ) (e : Event) → Run image events → Does (e .call) (lastImage image events) (e .given) (e .left)
+    → Run image (events ++ (e ∷ []))
+unfolding Run lastImage
+run-then [] image e r m = (m, tt)
+run-then (d ∷ events) image e r m = (r .0, run-then events (d .left) e (r .1) m)
+
+pub in-pieces : InPieces
+unfolding InPieces EveryRun
+in-pieces image name fork o xs pieces events acc r w buffer given left m l =
+    let e : Event = record { call = read name fork o buffer; given = given; left = left } in
+    let c = every-run image (events ++ (e ∷ [])) acc (run-then events image e r m) .1 in
+    let s = first-allowed name fork xs pieces events e image (reading image) o w c in
+    let p = pieces-hold name fork (xs ∷ pieces) events e image (reading image) o o [] s (omega arith) w c in
+    read-holds name fork (p .0) o (flat (xs ∷ pieces)) e (lastImage image events) buffer (p .1) refl (p .2) l
+
+pub read-back : ReadBack
+unfolding ReadBack InPieces Run Writes lastImage flat
+read-back image name fork o bytes changed written between acc m z buffer given left n l =
+    let e : Event = record { call = write name fork o bytes changed; given = written; left = between } in
+    let whole : flat (bytes ∷ []) ≡ bytes = append-nil bytes in
+    let r = in-pieces image name fork o bytes [] (e ∷ []) acc (m, tt) ((changed, refl), z, tt) buffer given left n (rw whole l) in
+    (r .0, r .1 ∙ l, r .2 ∙ whole)
+
+-- ---- EveryList
+
+made-run : (image : List ℕ) (calls : List Call) → Accepted image → Bytes image → AllFit calls → Run image (made image calls)
+unfolding Run made AllFit
+made-run image [] acc b w = tt
+made-run image (c ∷ calls) acc b w =
+    let m : Does c image (answer c image) (after c image) = record { bytes = b; fits = w .0; answers = refl; leaves = refl } in
+    let s = one-step (record { call = c; given = answer c image; left = after c image }) image acc m in
+    (m, made-run (after c image) calls (s .accepted) (s .bytes) (w .1))
+
+pub every-list : EveryList
+unfolding EveryList EveryRun
+every-list image calls acc b w =
+    let r = made-run image calls acc b w in
+    let c = every-run image (made image calls) acc r in
+    (r, c .1)

@@ -1,0 +1,11 @@
+pub mod Answers
+pub mod Reading
+pub mod Joined
+pub mod Rewrites
+pub mod Writes
+pub mod Cuts
+pub mod Deletes
+pub mod Creates
+pub mod BytesKept
+pub mod Run
+pub mod Corollaries

@@ -1,0 +1,423 @@
+-- The history, which knows no image, map or directory block; how an image reads as facts and files; what must hold after each
+-- event of a run; and the claim on every run.
+use Prim.Native.Nat.{ℕ, zero, suc, _+_, _-_, _*_, _/_, _%_, _≤_, _<_, max}
+use mathlib.Core.Path.{_≡_}
+use mathlib.Core.Bool.{Bool, true, false, _&&_, not, cond}
+use mathlib.Core.List.{List, [], _∷_, _++_, map}
+use mathlib.Core.Logic.{_↔_}
+use lib.ListN.{length, getD, take, drop}
+use lib.Dec.{eqb, ltb}
+use Rattle.model.specs.Lists.{any, keep, first, Reordered, times}
+use Rattle.model.specs.Bytes.{byte, be32, half, Within, overwritten, Bytes}
+use Rattle.model.specs.Facts.{factsOf, dirStart, dirLength, N, A, S, nextNumber, freeCount, isLocked, blockByte, withCounts, noFacts}
+use Rattle.model.specs.Map.{mapEntry}
+use Rattle.model.specs.Directory.{directory, numberIn, nameIn, finderIn, forkOf, wide, noEntry, flagsLock, blockCount, forkBlocks, sameName}
+use Rattle.model.specs.Check.{Accepted}
+use Rattle.model.specs.Calls.{Call, Known, fewest, badName, refuses, nameOf, forkGiven, entryNamed, forkBytes, readCount, copied, Answer, lent, Does}
+use Rattle.model.specs.Calls.Call.{check, entry, find, block, read, create, write, cut, delete}
+use Rattle.model.specs.declared.VolumeFacts.{VolumeFacts}
+use Rattle.model.specs.declared.DirectoryEntry.{DirectoryEntry}
+use Rattle.model.specs.declared.ForkFacts.{ForkFacts}
+use Rattle.model.specs.declared.Fork.{Fork}
+use Rattle.model.specs.declared.Fork.the-variants.{Data, Resource}
+
+-- ---- Its state
+
+-- each fork's bytes and count of blocks
+pub record Held : Type 0 where
+  pub bytes : List ℕ
+  pub count : ℕ
+
+-- for each file, its number, name, flags, Finder bytes and dates, and its forks
+pub record File : Type 0 where
+  pub number : ℕ
+  pub name : List ℕ
+  pub flags : ℕ
+  pub finder : List ℕ
+  pub created : ℕ
+  pub changed : ℕ
+  pub content : Held
+  pub resource : Held
+
+-- It holds the facts and the files.
+pub record History : Type 0 where
+  pub facts : VolumeFacts
+  pub files : List File
+
+unfoldable pub empty : Held
+empty = record { bytes = []; count = 0 }
+
+unfoldable pub noFile : File
+noFile = record { number = 0; name = []; flags = 0; finder = []; created = 0; changed = 0; content = empty; resource = empty }
+
+unfoldable pub heldOf : Fork → File → Held
+heldOf Data x = x .content
+heldOf Resource x = x .resource
+
+unfoldable pub blocksOf : List File → ℕ
+blocksOf [] = 0
+blocksOf (x ∷ xs) = x .content .count + x .resource .count + blocksOf xs
+
+-- the free blocks are all blocks less those that it gives to forks
+unfoldable pub freeOf : History → ℕ
+freeOf h = N (h .facts) - blocksOf (h .files)
+
+-- the facts, the number of files being the count of its files, and the free blocks these
+unfoldable pub factsNow : History → VolumeFacts
+factsNow h = withCounts (h .facts) (length (h .files)) (nextNumber (h .facts)) (freeOf h)
+
+-- ---- Its refusals
+
+unfoldable pub called : List ℕ → File → Bool
+called name x = sameName name (x .name)
+
+unfoldable pub fileCalled : List ℕ → History → File
+fileCalled name h = first (called name) noFile (h .files)
+
+-- All refusals but 1 to 10 it decides by the table and its order, from the arguments and what it holds, and it is fed whether
+-- the answer is 18.
+unfoldable pub knownTo : History → Bool → List ℕ → Fork → Known
+knownTo h full name fork =
+    let x = fileCalled name h in
+    record {
+      locked = isLocked (h .facts);
+      files = length (h .files);
+      exists = any (called name) (h .files);
+      fileLocked = flagsLock (x .flags);
+      logical = length (heldOf fork x .bytes);
+      blocks = heldOf fork x .count;
+      size = A (h .facts);
+      free = freeOf h;
+      next = nextNumber (h .facts);
+      full = full;
+    }
+
+unfoldable pub declines : History → Bool → Call → ℕ
+declines h full call = refuses call (knownTo h full (nameOf call) (forkGiven call))
+
+-- ---- Its steps
+
+-- Create adds a file with the next number, flags 80 hex, what is given, and no fork bytes or blocks.
+unfoldable pub newFile : ℕ → List ℕ → List ℕ → ℕ → ℕ → File
+newFile number name finder created changed = record {
+  number = number;
+  name = name;
+  flags = 0x80;
+  finder = finder;
+  created = created;
+  changed = changed;
+  content = empty;
+  resource = empty;
+}
+
+-- The count becomes the larger of itself and the fewest blocks that hold all.
+unfoldable pub writes : ℕ → ℕ → List ℕ → Held → Held
+writes a o xs g = record {
+  bytes = overwritten (g .bytes) o xs;
+  count = max (g .count) (fewest (length (overwritten (g .bytes) o xs)) a);
+}
+
+-- Cut keeps the first n bytes and the fewest blocks for them.
+unfoldable pub cuts : ℕ → ℕ → Held → Held
+cuts a n g = record { bytes = take n (g .bytes); count = fewest n a }
+
+-- f of the data fork, or of the resource fork, where that is the one given
+abbrev pub ofData : Fork → (Held → Held) → Held → Held
+ofData Data f g = f g
+ofData Resource f g = g
+
+abbrev pub ofResource : Fork → (Held → Held) → Held → Held
+ofResource Data f g = g
+ofResource Resource f g = f g
+
+-- Both set the change date.
+unfoldable pub changedFork : Fork → (Held → Held) → ℕ → File → File
+changedFork fork f date x = record {
+  number = x .number;
+  name = x .name;
+  flags = x .flags;
+  finder = x .finder;
+  created = x .created;
+  changed = date;
+  content = ofData fork f (x .content);
+  resource = ofResource fork f (x .resource);
+}
+
+unfoldable pub onCalled : List ℕ → (File → File) → File → File
+onCalled name f x = cond (called name x) (f x) x
+
+-- Check, entry, find, block and read change nothing. Delete drops the file.
+unfoldable pub moves : History → Call → History
+moves h check = h
+moves h (entry place) = h
+moves h (find name) = h
+moves h (block name fork place) = h
+moves h (read name fork offset buffer) = h
+moves h (create name finder created changed) = record {
+  facts = withCounts (h .facts) (h .facts .files) (nextNumber (h .facts) + 1) (freeCount (h .facts));
+  files = h .files ++ (newFile (nextNumber (h .facts)) name finder created changed ∷ []);
+}
+moves h (write name fork offset bytes changed) = record {
+  facts = h .facts;
+  files = map (onCalled name (changedFork fork (writes (A (h .facts)) offset bytes) changed)) (h .files);
+}
+moves h (cut name fork size changed) = record {
+  facts = h .facts;
+  files = map (onCalled name (changedFork fork (cuts (A (h .facts)) size) changed)) (h .files);
+}
+moves h (delete name) = record { facts = h .facts; files = keep (λ x. not (called name x)) (h .files) }
+
+-- Refused calls change nothing.
+unfoldable pub step : History → Bool → Call → History
+step h full call = cond (eqb (declines h full call) 0) (moves h call) h
+
+-- ---- What it tells
+
+-- equal in an answer: the number given back, what is told of facts and files, and read's count and bytes
+pub record Told : Type 0 where
+  pub number : ℕ
+  pub facts : VolumeFacts
+  pub entry : DirectoryEntry
+  pub count : ℕ
+  pub buffer : List ℕ
+
+-- Places and block numbers are demand 2's: a fork's fields without its start.
+unfoldable pub unplaced : ForkFacts → ForkFacts
+unplaced g = record { start = record { 0 = 0 }; logical = g .logical; physical = g .physical }
+
+unfoldable pub withoutStarts : DirectoryEntry → DirectoryEntry
+withoutStarts e = record {
+  flags = e .flags;
+  version = e .version;
+  finder = e .finder;
+  number = e .number;
+  «data» = unplaced (e .«data»);
+  resource = unplaced (e .resource);
+  created = e .created;
+  changed = e .changed;
+  «name_length» = e .«name_length»;
+  name = e .name;
+}
+
+unfoldable pub toldBy : Answer → Told
+toldBy r = record {
+  number = r .number;
+  facts = r .facts;
+  entry = withoutStarts (r .entry);
+  count = r .count;
+  buffer = r .buffer;
+}
+
+-- a held fork's fields, in blocks of a bytes
+unfoldable pub lengthsOf : ℕ → Held → ForkFacts
+lengthsOf a g = record { start = record { 0 = 0 }; logical = length (g .bytes); physical = g .count * a }
+
+unfoldable pub entryOf : ℕ → File → DirectoryEntry
+entryOf a x = record {
+  flags = x .flags;
+  version = 0;
+  finder = x .finder;
+  number = x .number;
+  «data» = lengthsOf a (x .content);
+  resource = lengthsOf a (x .resource);
+  created = x .created;
+  changed = x .changed;
+  «name_length» = length (x .name);
+  name = wide (x .name);
+}
+
+unfoldable pub toldOnly : ℕ → List ℕ → Told
+toldOnly number buffer = record { number = number; facts = noFacts; entry = noEntry; count = 0; buffer = buffer }
+
+-- the file with that number
+unfoldable pub fileNumbered : ℕ → History → File
+fileNumbered n h = first (λ x. eqb (x .number) n) noFile (h .files)
+
+-- what it tells of a call that is not refused; n is the number of the file that the image's reading has at the place asked
+unfoldable pub says : History → ℕ → Call → Told
+says h n check = record { number = 0; facts = factsNow h; entry = noEntry; count = 0; buffer = [] }
+says h n (entry place) =
+    record { number = 0; facts = noFacts; entry = entryOf (A (h .facts)) (fileNumbered n h); count = 0; buffer = [] }
+says h n (find name) =
+    record { number = 0; facts = noFacts; entry = entryOf (A (h .facts)) (fileCalled name h); count = 0; buffer = [] }
+says h n (block name fork place) = toldOnly 0 []
+says h n (read name fork offset buffer) =
+    let bytes = heldOf fork (fileCalled name h) .bytes in
+    record {
+      number = 0;
+      facts = noFacts;
+      entry = noEntry;
+      count = readCount (length buffer) (length bytes) offset;
+      buffer = copied bytes offset buffer;
+    }
+says h n (create name finder created changed) = toldOnly 0 []
+says h n (write name fork offset bytes changed) = toldOnly 0 []
+says h n (cut name fork size changed) = toldOnly 0 []
+says h n (delete name) = toldOnly 0 []
+
+unfoldable pub tells : History → Bool → ℕ → Call → Told
+tells h full n call = cond (eqb (declines h full call) 0) (says h n call) (toldOnly (declines h full call) (lent call))
+
+-- ---- How an image reads as facts and files
+
+unfoldable pub heldIn : VolumeFacts → List ℕ → ForkFacts → Held
+heldIn f image g = record { bytes = forkBytes (S f) (A f) image g; count = blockCount (A f) g }
+
+unfoldable pub fileIn : VolumeFacts → List ℕ → List ℕ → File
+fileIn f image e = record {
+  number = numberIn e;
+  name = nameIn e;
+  flags = byte e 0;
+  finder = finderIn e;
+  created = be32 e 42;
+  changed = be32 e 46;
+  content = heldIn f image (forkOf Data e);
+  resource = heldIn f image (forkOf Resource e);
+}
+
+-- the files of an image in directory order
+unfoldable pub filesIn : List ℕ → List File
+filesIn image = map (fileIn (factsOf image) image) (directory image)
+
+-- It starts from the facts and files that the first image reads as.
+unfoldable pub reading : List ℕ → History
+reading image = record { facts = factsOf image; files = filesIn image }
+
+-- The image has these facts and files, each file at one place.
+pub record Agrees (image : List ℕ) (h : History) : Type 0 where
+  pub facts : factsOf image ≡ factsNow h
+  pub files : Reordered (filesIn image) (h .files)
+
+-- ---- Runs
+
+-- a call that was made: its arguments, what it answered and the image that it left
+pub record Event : Type 0 where
+  pub call : Call
+  pub given : Answer
+  pub left : List ℕ
+
+-- Only the image passes from call to call: each event is one that demand 2 allows on the image that the event before it left.
+unfoldable pub Run : List ℕ → List Event → Type 0
+Run image [] = Unit
+Run image (e ∷ events) = Does (e .call) image (e .given) (e .left) × Run (e .left) events
+
+-- of the answer, the history is told this alone
+unfoldable pub isFull : Event → Bool
+isFull e = eqb (e .given .number) 18
+
+-- the number of the file that the image's reading has at the place asked
+unfoldable pub asked : List ℕ → Call → ℕ
+asked image (entry place) = numberIn (getD (directory image) place [])
+asked image check = 0
+asked image (find name) = 0
+asked image (block name fork place) = 0
+asked image (read name fork offset buffer) = 0
+asked image (create name finder created changed) = 0
+asked image (write name fork offset bytes changed) = 0
+asked image (cut name fork size changed) = 0
+asked image (delete name) = 0
+
+-- ---- Which bytes may differ
+
+-- the blocks that an image gives to the named fork (for a delete, to both forks)
+unfoldable pub blocksNamed : List ℕ → List ℕ → Fork → List ℕ
+blocksNamed image name fork = forkBlocks (mapEntry image) (A (factsOf image)) (forkOf fork (entryNamed name image))
+
+unfoldable pub namedBlocks : Call → List ℕ → List ℕ
+namedBlocks check image = []
+namedBlocks (entry place) image = []
+namedBlocks (find name) image = []
+namedBlocks (block name fork place) image = []
+namedBlocks (read name fork offset buffer) image = []
+namedBlocks (create name finder created changed) image = []
+namedBlocks (write name fork offset bytes changed) image = blocksNamed image name fork
+namedBlocks (cut name fork size changed) image = blocksNamed image name fork
+namedBlocks (delete name) image = blocksNamed image name Data ++ blocksNamed image name Resource
+
+-- The half-bytes that a change may touch, where bs are the blocks that the named fork has before or after and d is a directory
+-- block: the blocks bs and their map entries (each three half-bytes), the directory block, the number of files, the next file
+-- number, the free count. A neighbour's half-byte and dead space are not among them.
+pub data Named (f : VolumeFacts) (bs : List ℕ) (d : ℕ) : ℕ → Type 0 where
+  inBlock : (b h : ℕ) → 1 ≤ times b bs → Within (blockByte (S f) (A f) b) (A f) h → Named f bs d h
+  inEntry : (b h : ℕ) → 1 ≤ times b bs → 2176 + 3 * (b - 2) ≤ h → h < 2179 + 3 * (b - 2) → Named f bs d h
+  inDirectory : (h : ℕ) → Within (512 * d) 512 h → Named f bs d h
+  inFiles : (h : ℕ) → Within 1036 2 h → Named f bs d h
+  inNext : (h : ℕ) → Within 1054 4 h → Named f bs d h
+  inFree : (h : ℕ) → Within 1058 2 h → Named f bs d h
+
+pub record OnlyNamed (call : Call) (image left : List ℕ) : Type 0 where
+  pub size : length left ≡ length image
+  -- one directory block
+  pub d : ℕ
+  pub first : dirStart (factsOf image) ≤ d
+  pub last : d < dirStart (factsOf image) + dirLength (factsOf image)
+  pub kept : (h : ℕ) → (Named (factsOf image) (namedBlocks call image ++ namedBlocks call left) d h → ⊥) → half left h ≡ half image h
+
+-- calls that may change the image
+unfoldable pub changes : Call → Bool
+changes check = false
+changes (entry place) = false
+changes (find name) = false
+changes (block name fork place) = false
+changes (read name fork offset buffer) = false
+changes (create name finder created changed) = true
+changes (write name fork offset bytes changed) = true
+changes (cut name fork size changed) = true
+changes (delete name) = true
+
+-- ---- Refusal 17
+
+-- the new blocks that a write needs of a held fork: the rise of its count
+unfoldable pub rise : ℕ → ℕ → List ℕ → Held → ℕ
+rise a o xs g = writes a o xs g .count - g .count
+
+-- a write passes the checks before 17, and needs more new blocks than are free
+pub record NoRoom (h : History) (name : List ℕ) (fork : Fork) (offset : ℕ) (bytes : List ℕ) : Type 0 where
+  pub unlocked : isLocked (h .facts) ≡ false
+  pub titled : badName name ≡ false
+  pub there : any (called name) (h .files) ≡ true
+  pub writable : flagsLock (fileCalled name h .flags) ≡ false
+  pub within : offset ≤ length (heldOf fork (fileCalled name h) .bytes)
+  pub exceeds : freeOf h < rise (A (h .facts)) offset bytes (heldOf fork (fileCalled name h))
+
+-- A write gets 17 exactly then; no other call gets 17.
+unfoldable pub RoomRule : History → Call → ℕ → Type 0
+RoomRule h (write name fork offset bytes changed) number = (number ≡ 17) ↔ NoRoom h name fork offset bytes
+RoomRule h check number = number ≡ 17 → ⊥
+RoomRule h (entry place) number = number ≡ 17 → ⊥
+RoomRule h (find name) number = number ≡ 17 → ⊥
+RoomRule h (block name fork place) number = number ≡ 17 → ⊥
+RoomRule h (read name fork offset buffer) number = number ≡ 17 → ⊥
+RoomRule h (create name finder created changed) number = number ≡ 17 → ⊥
+RoomRule h (cut name fork size changed) number = number ≡ 17 → ⊥
+RoomRule h (delete name) number = number ≡ 17 → ⊥
+
+-- ---- The claim
+
+-- what must hold after an event on an image that reads as the history h
+pub record Step (e : Event) (image : List ℕ) (h : History) : Type 0 where
+  -- the image is bytes, and accepted
+  pub bytes : Bytes (e .left)
+  pub accepted : Accepted (e .left)
+  -- it reads as the history says
+  pub agrees : Agrees (e .left) (step h (isFull e) (e .call))
+  -- the answers agree
+  pub told : toldBy (e .given) ≡ tells h (isFull e) (asked image (e .call)) (e .call)
+  -- only the named bytes differ
+  pub kept : OnlyNamed (e .call) image (e .left)
+  -- a refused call and one that only reads change nothing
+  pub still : (changes (e .call) && eqb (e .given .number) 0) ≡ false → e .left ≡ image
+  -- refused for room exactly when more new blocks are needed than are free
+  pub room : RoomRule h (e .call) (e .given .number)
+
+-- every event of the list keeps step with the history
+unfoldable pub Holds : List ℕ → History → List Event → Type 0
+Holds image h [] = Unit
+Holds image h (e ∷ events) = Step e image h × Holds (e .left) (step h (isFull e) (e .call)) events
+
+-- For every list of calls from an accepted image, refused ones included: the history starts from what the image reads as, and
+-- every event keeps step with it.
+unfoldable pub EveryRun : Type 0
+EveryRun =
+    (image : List ℕ) (events : List Event) → Accepted image → Run image events
+    → Agrees image (reading image) × Holds image (reading image) events

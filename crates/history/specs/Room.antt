@@ -1,0 +1,26 @@
+-- For the auditor: "disk full" is said only without room, and no block is hidden.
+use Prim.Native.Nat.{ℕ, _+_, _<_}
+use mathlib.Core.Path.{_≡_}
+use mathlib.Core.List.{List}
+use lib.ListN.{length}
+use Rattle.model.specs.Facts.{factsOf, N, A, freeCount}
+use Rattle.model.specs.Directory.{forkOf, blockCount}
+use Rattle.model.specs.Check.{Accepted}
+use Rattle.model.specs.Calls.{Answer, Does, needed, grown, entryNamed}
+use Rattle.model.specs.Calls.Call.{write}
+use Rattle.history.specs.History.{blocksOf, filesIn}
+use Rattle.model.specs.declared.Fork.{Fork}
+
+-- the new blocks that a write of n bytes at o needs
+abbrev pub newBlocks : List ℕ → List ℕ → Fork → ℕ → ℕ → ℕ
+newBlocks image name fork o n =
+    let g = forkOf fork (entryNamed name image) in
+    needed (A (factsOf image)) (grown (g .logical) o n) (blockCount (A (factsOf image)) g)
+
+-- A write is refused for room only when its new blocks exceed the free blocks; free blocks and all forks' blocks together are N.
+unfoldable pub Room : Type 0
+Room =
+    (image name : List ℕ) (fork : Fork) (offset : ℕ) (bytes : List ℕ) (changed : ℕ) (given : Answer) (left : List ℕ)
+    → Accepted image → Does (write name fork offset bytes changed) image given left → given .number ≡ 17
+    → (freeCount (factsOf image) < newBlocks image name fork offset (length bytes))
+    × (freeCount (factsOf image) + blocksOf (filesIn image) ≡ N (factsOf image))

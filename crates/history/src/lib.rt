@@ -1,0 +1,47 @@
+// The claim on every list of calls, and what follows from it for the auditor.
+ghost use Rattle.history.specs.Deleting.{Deleting};
+ghost use Rattle.history.specs.EveryList.{EveryList};
+ghost use Rattle.history.specs.History.{EveryRun};
+ghost use Rattle.history.specs.InPieces.{InPieces};
+ghost use Rattle.history.specs.ReadBack.{ReadBack};
+ghost use Rattle.history.specs.Room.{Room};
+ghost use Rattle.history.specs.Untouched.{Untouched};
+
+// Every list of calls from an accepted image keeps step with its history.
+pub fn every_run()
+    ensures { λ _. ⌜ EveryRun ⌝ }
+{}
+
+// What follows from that for the auditor.
+
+// After any list of calls, a file that no create, write, cut or delete was given the name of is what it was: its bytes, its
+// dates and all the rest.
+pub fn untouched()
+    ensures { λ _. ⌜ Untouched ⌝ }
+{}
+
+// Deleting one file changes no byte and no date of another.
+pub fn deleting()
+    ensures { λ _. ⌜ Deleting ⌝ }
+{}
+
+// "Disk full" is said only where a write needs more new blocks than are free, and no block is hidden: free blocks and the files'
+// blocks together are all blocks of the disk.
+pub fn room()
+    ensures { λ _. ⌜ Room ⌝ }
+{}
+
+// What read gives of a fork that was written in pieces, one behind the other, is the bytes written, in place.
+pub fn in_pieces()
+    ensures { λ _. ⌜ InPieces ⌝ }
+{}
+
+// A read after a write, at the same place and of the same length, gives the bytes written.
+pub fn read_back()
+    ensures { λ _. ⌜ ReadBack ⌝ }
+{}
+
+// No list of calls falls out of the claim: whatever is called has a run, and that run keeps step with its history.
+pub fn every_list()
+    ensures { λ _. ⌜ EveryList ⌝ }
+{}
