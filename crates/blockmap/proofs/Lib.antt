@@ -1,5 +1,6 @@
 pub mod Bits
 pub mod Ranges
+pub mod Counting
 pub mod Chains
 pub mod Walks
 pub mod Marks

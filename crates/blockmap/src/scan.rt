@@ -2,9 +2,10 @@
 ghost use mathlib.Core.Path.{_≡_};
 ghost use Prim.Native.Nat.{_≤_};
 ghost use lib.ListN.{length};
-ghost use Rattle.model.specs.Map.{mapEntry, sortOf, freeBlocks};
+ghost use Rattle.model.specs.Map.{mapEntry, sortOf};
 ghost use Rattle.model.specs.Check.{fires5};
-ghost use Rattle.blockmap.specs.Marks.{unowned};
+ghost use Rattle.blockmap.specs.Marks.{Counted};
+use crate::Census;
 use crate::packed::load;
 use model::AllocationBlock;
 use model::MapValue;
@@ -51,36 +52,24 @@ pub fn any_bad(image: &[u8], n: u16) -> bool
     false
 }
 
-// Whether an entry above 0 is that of a block without a mark.
-pub fn any_unowned(image: &[u8], n: u16, marks: &[u8; 642]) -> bool
+// Whether an entry above 0 is that of a block without a mark, and how many entries are 0.
+pub fn owned_and_free(image: &[u8], n: u16, marks: &[u8; 642]) -> Census
     requires { ⌜ (n ≤ 640) × (2048 ≤ length (now image)) ⌝ }
-    ensures { λ r. ⌜ r ≡ unowned (mapEntry (now (image .entry))) n (now (marks .entry)) ⌝ }
+    ensures { λ r. ⌜ Counted (mapEntry (now (image .entry))) n (now (marks .entry)) r ⌝ }
 {
+    let mut unowned = false;
+    let mut free: u16 = 0;
     let mut b: u16 = 2;
     while b < n + 2 {
-        if marks[b as usize] == 0 {
-            let value = load(image, AllocationBlock(b));
-            if 0 < value {
-                return true;
+        let value = load(image, AllocationBlock(b));
+        if value == 0 {
+            free += 1;
+        } else {
+            if marks[b as usize] == 0 {
+                unowned = true;
             }
         }
         b += 1;
     }
-    false
-}
-
-// How many entries are 0.
-pub fn count_free(image: &[u8], n: u16) -> u16
-    requires { ⌜ (n ≤ 640) × (2048 ≤ length (now image)) ⌝ }
-    ensures { λ r. ⌜ r ≡ length (freeBlocks (mapEntry (now (image .entry))) n) ⌝ }
-{
-    let mut count: u16 = 0;
-    let mut b: u16 = 2;
-    while b < n + 2 {
-        if load(image, AllocationBlock(b)) == 0 {
-            count += 1;
-        }
-        b += 1;
-    }
-    count
+    Census { unowned, free }
 }

@@ -1,5 +1,5 @@
-// Checks 1 to 10, in their order. The map and the directory are read once or twice, and each fork's blocks are marked as they
-// are walked.
+// Checks 1 to 10, in their order. The map is read twice, and each fork's blocks are marked as they are walked. The directory is
+// read twice, besides the search for equal numbers and names pair by pair.
 ghost use mathlib.Core.Path.{_≡_};
 ghost use Prim.Native.Nat.{_≤_};
 ghost use lib.ListN.{length};
@@ -93,14 +93,14 @@ fn directory_number(image: &[u8], c: Cursor, files: u16, next: u32) -> u8
     requires { ⌜ Fits (now image) c ⌝ }
     ensures { λ r. ⌜ r ≡ directoryNumber files next (restOf (now (image .entry)) c) ⌝ }
 {
-    let t = directory::count_entries(image, c);
+    let t = directory::count_entries(image, c, next);
     if t.bad {
         return 6;
     }
     if t.count != files as usize {
         return 7;
     }
-    if !directory::numbers_good(image, c, next) {
+    if !t.numbered {
         return 7;
     }
     if !directory::all_differ(image, c) {
@@ -149,10 +149,11 @@ fn map_number(image: &[u8], f: VolumeFacts, c: Cursor) -> u8
     if !claim_all(image, c, n, f.block_size, &mut marks) {
         return 8;
     }
-    if blockmap::any_unowned(image, n, &marks) {
+    let census = blockmap::owned_and_free(image, n, &marks);
+    if census.unowned {
         return 9;
     }
-    if blockmap::count_free(image, n) != f.free_blocks {
+    if census.free != f.free_blocks {
         return 10;
     }
     0

@@ -1,5 +1,5 @@
 -- Laws of the tests over the entries from a cursor on, by one step of the cursor: an entry more, no entry, an entry that fails.
-use Prim.Native.Nat.{ℕ, zero, suc, _-_, _≤_, _<_}
+use Prim.Native.Nat.{ℕ, zero, suc, _-_}
 use mathlib.Core.Path.{_≡_, refl, sym, ap, _∙_}
 use mathlib.Core.Bool.{Bool, true, false, not, _&&_, _||_, and-false}
 use mathlib.Core.List.{List, [], _∷_}
@@ -58,13 +58,14 @@ module _ (image : List ℕ) (c : Cursor) where
 -- ---- one entry more in front
 
 module _ {A : Type 0} (p : A → Bool) (x : A) (xs : List A) where
-  pub every-pass : p x ≡ true → every p (x ∷ xs) ≡ every p xs
+  -- n says whether every one before x passes, m whether x does so too
+  pub every-pass : (n m : Bool) → p x ≡ true → m ≡ n → (n && every p (x ∷ xs)) ≡ (m && every p xs)
   unfolding every
-  every-pass h = rw h
+  every-pass n m h e = rw (h, e)
 
-  pub every-fail : p x ≡ false → every p (x ∷ xs) ≡ false
+  pub every-fail : (n m : Bool) → p x ≡ false → m ≡ false → (n && every p (x ∷ xs)) ≡ (m && every p xs)
   unfolding every
-  every-fail h = rw h
+  every-fail n m h e = rw (h, e, and-false n)
 
   pub any-pass : p x ≡ true → any p (x ∷ xs) ≡ true
   unfolding any
@@ -100,17 +101,13 @@ module _ {A : Type 0} (d x : A) (xs : List A) where
 
 -- ---- check 7
 
-pub number-good : (next : ℕ) (e : List ℕ) → (numberIn e ≡ 0 → ⊥) → numberIn e < next → goodNumber next e ≡ true
-unfolding goodNumber
-number-good next e z l = rw (lt-ltb 0 (numberIn e) (omega arith), lt-ltb (numberIn e) next l)
-
 pub number-zero : (next : ℕ) (e : List ℕ) → numberIn e ≡ 0 → goodNumber next e ≡ false
 unfolding goodNumber
 number-zero next e z = rw (le-ltb 0 (numberIn e) (omega arith))
 
-pub number-high : (next : ℕ) (e : List ℕ) → next ≤ numberIn e → goodNumber next e ≡ false
+pub number-some : (next : ℕ) (e : List ℕ) → (numberIn e ≡ 0 → ⊥) → goodNumber next e ≡ ltb (numberIn e) next
 unfolding goodNumber
-number-high next e l = rw (le-ltb (numberIn e) next l, and-false (ltb 0 (numberIn e)))
+number-some next e z = rw (lt-ltb 0 (numberIn e) (omega arith))
 
 pub clash-number : (d e : List ℕ) → numberIn d ≡ numberIn e → clash d e ≡ true
 unfolding clash

@@ -8,3 +8,4 @@ pub mod Located
 pub mod Blocks
 pub mod Rooming
 pub mod Elsewhere
+pub mod Inserting

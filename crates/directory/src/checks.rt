@@ -1,7 +1,7 @@
 // What checks 6 and 7 ask of the entries.
 ghost use mathlib.Core.Path.{_≡_};
 ghost use mathlib.Core.Bool.{_&&_};
-ghost use Rattle.model.specs.Lists.{every, any, distinct};
+ghost use Rattle.model.specs.Lists.{any, distinct};
 ghost use Rattle.model.specs.Check.{goodNumber, sameNumbers, sameNames};
 ghost use Rattle.directory.specs.Cursor.{restOf, Fits, bytesAt, Stands, Passes};
 ghost use Rattle.directory.specs.Checks.{Tallied, clash};
@@ -12,52 +12,48 @@ use crate::Tally;
 use crate::fields::number_of;
 use crate::names::same_name;
 
-// Check 6, and the count of entries that check 7 compares.
-pub fn count_entries(image: &[u8], from: Cursor) -> Tally
+// Whether the entry's file number is above 0 and below the next one.
+fn good_number(image: &[u8], e: EntryAt, next: u32) -> bool
+    requires { ⌜ Stands (now image) e ⌝ }
+    ensures { λ r. ⌜ r ≡ goodNumber next (bytesAt (now (image .entry)) e) ⌝ }
+{
+    let number = number_of(image, e);
+    if number == 0 {
+        return false;
+    }
+    number < next
+}
+
+// Check 6, and the count of entries and the test of their file numbers for check 7.
+pub fn count_entries(image: &[u8], from: Cursor, next: u32) -> Tally
     requires { ⌜ Fits (now image) from ⌝ }
-    ensures { λ r. ⌜ Tallied (restOf (now (image .entry)) from) r ⌝ }
+    ensures { λ r. ⌜ Tallied next (restOf (now (image .entry)) from) r ⌝ }
 {
     let mut c = from;
     let mut count: usize = 0;
-    loop {
-        match c.next(image) {
-            Step::Entry(_, next) => {
-                count += 1;
-                c = next;
-            }
-            Step::End => {
-                return Tally { bad: false, count };
-            }
-            Step::Bad => {
-                return Tally { bad: true, count };
-            }
-        }
-    }
-}
-
-// Whether each file number is above 0 and below the next one.
-pub fn numbers_good(image: &[u8], from: Cursor, next: u32) -> bool
-    requires { ⌜ Passes (now image) from ⌝ }
-    ensures { λ r. ⌜ r ≡ every (goodNumber next) (restOf (now (image .entry)) from) ⌝ }
-{
-    let mut c = from;
+    let mut numbered = true;
     loop {
         match c.next(image) {
             Step::Entry(e, behind) => {
-                let number = number_of(image, e);
-                if number == 0 {
-                    return false;
+                if !good_number(image, e, next) {
+                    numbered = false;
                 }
-                if next <= number {
-                    return false;
-                }
+                count += 1;
                 c = behind;
             }
             Step::End => {
-                return true;
+                return Tally {
+                    bad: false,
+                    count,
+                    numbered,
+                };
             }
             Step::Bad => {
-                return true;
+                return Tally {
+                    bad: true,
+                    count,
+                    numbered,
+                };
             }
         }
     }

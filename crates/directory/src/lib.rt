@@ -10,12 +10,12 @@ mod storing;
 
 pub use checks::all_differ;
 pub use checks::count_entries;
-pub use checks::numbers_good;
 pub use fields::read_entry;
 pub use fields::read_fork;
 pub use names::fold;
 pub use names::same_name;
 pub use placing::find_room;
+pub use placing::insert_entry;
 pub use removing::read_end;
 pub use removing::remove_entry;
 pub use search::entry_at;
@@ -50,10 +50,12 @@ pub enum Step {
     Bad,
 }
 
-// Whether check 6 fires, and how many entries there are where it does not.
+// Whether check 6 fires, and where it does not, how many entries there are and whether each file number is above 0 and below
+// the next one.
 pub struct Tally {
     pub bad: bool,
     pub count: usize,
+    pub numbered: bool,
 }
 
 // What a search finds.

@@ -225,7 +225,7 @@ pub record GoodName (name : List ℕ) : Type 0 where
   pub some : 1 ≤ length name
   pub short : length name ≤ 255
 
-good-name : (name : List ℕ) → badName name ≡ false → GoodName name
+pub good-name : (name : List ℕ) → badName name ≡ false → GoodName name
 unfolding badName
 good-name name h =
     let s = or-false (eqb (length name) 0) (ltb 255 (length name)) h in

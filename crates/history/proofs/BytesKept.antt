@@ -214,7 +214,7 @@ module _ (image : List ℕ) (acc : Accepted image) where
   abbrev f : VolumeFacts
   f = factsOf image
 
-  files-few : factsOf image .files ≤ 2560
+  pub files-few : factsOf image .files ≤ 2560
   unfolding directory directoryBlocks
   files-few =
       omega (
@@ -244,7 +244,7 @@ module _ (image : List ℕ) (acc : Accepted image) where
         subst (λ (e : List ℕ). SoundFork (mapEntry image) (N f) (A f) (forkOf fork e)) (r .1) (sound-fork image acc (placeOf (named name) (directory image)) (r .0) fork)
 
     -- its blocks and the free ones are no more than N
-    named-counts : freeCount f + (length (blocks Data) + length (blocks Resource)) ≤ N f
+    pub named-counts : freeCount f + (length (blocks Data) + length (blocks Resource)) ≤ N f
     unfolding entryNamed
     named-counts =
         let r = first-found (named name) [] (directory image) found in

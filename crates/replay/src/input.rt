@@ -22,6 +22,11 @@ pub enum ForkField {
     Stop,
 }
 
+pub enum DateField {
+    Is(u32),
+    Stop,
+}
+
 pub fn bad_record() -> Field {
     io::write_all(1, b"bad record\n");
     Field::Stop
@@ -54,12 +59,20 @@ fn number16() -> Field {
     Field::Is(model::be16_at(&b, 0) as u64)
 }
 
-pub fn number32() -> Field {
+pub fn date() -> DateField {
     let mut b = [0u8; 4];
     if io::read_full(0, &mut b) != 4 {
-        return bad_record();
+        bad_record();
+        return DateField::Stop;
     }
-    Field::Is(model::be32_at(&b, 0) as u64)
+    DateField::Is(model::be32_at(&b, 0))
+}
+
+pub fn number32() -> Field {
+    let DateField::Is(n) = date() else {
+        return Field::Stop;
+    };
+    Field::Is(n as u64)
 }
 
 // A place or an offset.
@@ -106,6 +119,14 @@ pub fn name(space: &mut [u8]) -> Field {
         return Field::Stop;
     };
     take(space, n)
+}
+
+// The Finder bytes of a new file.
+pub fn finder(space: &mut [u8; 16]) -> Field {
+    if io::read_full(0, space) != 16 {
+        return bad_record();
+    }
+    Field::Is(16)
 }
 
 pub fn fork() -> ForkField {

@@ -3,6 +3,7 @@ ghost use mathlib.Core.Path.{_≡_};
 ghost use lib.ListN.{length};
 
 mod calls;
+mod changes;
 mod input;
 mod line;
 
@@ -34,13 +35,17 @@ fn load(space: &mut [u8]) -> Next {
 }
 
 // Carries out a call and prints its line. False ends the run.
-fn call(tag: u8, image: &[u8]) -> bool {
+fn call(tag: u8, image: &mut [u8]) -> bool {
     match tag {
         b'C' => calls::check(image),
         b'E' => calls::entry(image),
         b'F' => calls::find(image),
         b'B' => calls::block(image),
         b'R' => calls::read(image),
+        b'N' => changes::create(image),
+        b'W' => changes::write(image),
+        b'U' => changes::cut(image),
+        b'D' => changes::delete(image),
         _ => {
             input::bad_record();
             false
@@ -59,7 +64,7 @@ fn record(space: &mut [u8], n: usize) -> Next {
     if space.len() < n {
         return Next::Stop;
     }
-    if call(tag, &space[0..n]) {
+    if call(tag, &mut space[0..n]) {
         return Next::Go(n);
     }
     Next::Stop

@@ -17,7 +17,7 @@ use Rattle.model.proofs.Calls.{by-volume, by-own, does-refuse, does-serve}
 use Rattle.model.proofs.Check.{verdict-accepted}
 use Rattle.volume.specs.declared.CheckAnswer.{CheckAnswer}
 use Rattle.volume.specs.Told.{toldCheck}
-use Rattle.volume.specs.Lookup.{Readable}
+use Rattle.files.specs.Lookup.{Readable}
 use Rattle.checks.proofs.Numbers.{fires-here, passes-here}
 
 -- ---- the returns of `check`

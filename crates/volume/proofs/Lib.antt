@@ -1,9 +1,8 @@
 pub mod Checked
-pub mod Copying
-pub mod Filling
-pub mod Growing
-pub mod Octets
-pub mod Lookups
-pub mod Forks
-pub mod Elsewhere
 pub mod Replies
+pub mod Runs
+pub mod Written
+pub mod Creates
+pub mod Refusing
+pub mod Cuts
+pub mod Deletes

@@ -1,4 +1,4 @@
--- The returns of the calls that change nothing: on an image that is not accepted, and on one that is.
+-- The returns of the calls: of all on an image that is not accepted, and of those that change nothing on one that is.
 use Prim.Native.Nat.{ℕ, _/_, _^_, _≤_, _<_}
 use mathlib.Core.Path.{_≡_, refl, _∙_}
 use mathlib.Core.Bool.{Bool, true, false, not}
@@ -14,7 +14,7 @@ use Rattle.model.specs.Directory.{directory, entryIn, noEntry, forkOf, blockCou
 use Rattle.model.specs.Check.{orElse, verdict}
 use Rattle.model.specs.Calls.{Call, Does, Fits, nameOf, forkGiven, badName, refuses, knownIn}
 use Rattle.model.specs.Calls.{forkBytes, readCount, copied, change, only, lent, reply, tellsEntry, tellsBlock, tellsBytes}
-use Rattle.model.specs.Calls.Call.{entry, find, block, read}
+use Rattle.model.specs.Calls.Call.{entry, find, block, read, create, write, cut, delete}
 use Rattle.model.proofs.Check.{accepted-verdict}
 use Rattle.model.proofs.Calls.{by-volume, by-own, does-refuse, does-serve}
 use Rattle.history.proofs.Answers.{own-is, named-length}
@@ -27,9 +27,9 @@ use Rattle.model.specs.declared.DirectoryEntry.{DirectoryEntry}
 use Rattle.model.specs.declared.Fork.{Fork}
 use Rattle.model.specs.declared.ForkFacts.{ForkFacts}
 use Rattle.directory.specs.declared.EntryAt.{EntryAt}
-use Rattle.volume.specs.Told.{toldEntry, toldFind, toldBlock, toldRead}
-use Rattle.volume.specs.Lookup.{Readable, Found, Missed}
-use Rattle.volume.proofs.Forks.{named-bytes, named-fork}
+use Rattle.volume.specs.Told.{toldEntry, toldFind, toldBlock, toldRead, toldNumber}
+use Rattle.files.specs.Lookup.{Readable, Found, Missed}
+use Rattle.files.proofs.Forks.{named-bytes, named-fork}
 
 -- ---- an image that is not accepted
 
@@ -56,10 +56,29 @@ module _ {image : List ℕ} {n : ℕ} (octets : Bytes image) (v : n ≡ verdict 
   unfolding Fits only lent
   read-stopped name fork offset buffer letters fits room = stop (read name fork offset buffer) (letters, fits, room)
 
+  pub create-stopped : (name finder : List ℕ) (created changed : ℕ) → Bytes name → Bytes finder → length finder ≡ 16 → created < 2 ^ 32 → changed < 2 ^ 32
+      → Does (create name finder created changed) image (toldNumber n) image
+  unfolding Fits lent
+  create-stopped name finder created changed letters octets long made fits = stop (create name finder created changed) (letters, octets, long, made, fits)
+
+  pub write-stopped : (name : List ℕ) (fork : Fork) (offset : ℕ) (bytes : List ℕ) (changed : ℕ) → Bytes name → offset < 2 ^ 64 → Bytes bytes → changed < 2 ^ 32
+      → Does (write name fork offset bytes changed) image (toldNumber n) image
+  unfolding Fits lent
+  write-stopped name fork offset bytes changed letters at octets fits = stop (write name fork offset bytes changed) (letters, at, octets, fits)
+
+  pub cut-stopped : (name : List ℕ) (fork : Fork) (size changed : ℕ) → Bytes name → size < 2 ^ 64 → changed < 2 ^ 32
+      → Does (cut name fork size changed) image (toldNumber n) image
+  unfolding Fits lent
+  cut-stopped name fork size changed letters long fits = stop (cut name fork size changed) (letters, long, fits)
+
+  pub delete-stopped : (name : List ℕ) → Bytes name → Does (delete name) image (toldNumber n) image
+  unfolding Fits lent
+  delete-stopped name letters = stop (delete name) letters
+
 -- ---- an accepted image
 
 -- a test behind 12 and 13 changes nothing where one of them fires
-fires-before : (t u : Bool) (rest : ℕ) → (orElse t 12 (orElse u 13 0) ≡ 0 → ⊥) → orElse t 12 (orElse u 13 0) ≡ orElse t 12 (orElse u 13 rest)
+pub fires-before : (t u : Bool) (rest : ℕ) → (orElse t 12 (orElse u 13 0) ≡ 0 → ⊥) → orElse t 12 (orElse u 13 0) ≡ orElse t 12 (orElse u 13 rest)
 fires-before true u rest z = refl
 fires-before false true rest z = refl
 fires-before false false rest z = absurd (z refl)

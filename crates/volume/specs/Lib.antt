@@ -1,6 +1,2 @@
 pub mod Told
-pub mod Lookup
-pub mod Content
-pub mod Growth
-pub mod Adding
-pub mod Leaves
+pub mod Runs

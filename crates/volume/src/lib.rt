@@ -1,22 +1,28 @@
 // The calls on a volume. Each checks the image itself, and states its answer and every byte that it leaves.
+ghost use Rattle.volume.specs.Runs.{PublicRuns};
+
 mod answers;
 mod checking;
-mod content;
-mod counts;
-mod limits;
-mod lookup;
+mod creating;
+mod cutting;
+mod deleting;
 mod reading;
 mod serving;
+mod writing;
 
-use directory::EntryAt;
+pub use checking::check;
+pub use creating::create;
+pub use cutting::cut;
+pub use deleting::delete;
 use model::AllocationBlock;
 use model::DirectoryEntry;
 use model::VolumeFacts;
-pub use checking::check;
 pub use reading::block;
 pub use reading::entry;
 pub use reading::find;
 pub use reading::read;
+pub use serving::serve_entry;
+pub use writing::write;
 
 // Each answer begins with its number: 0, or that of the refusal, and then all else is zero.
 pub struct CheckAnswer {
@@ -45,14 +51,7 @@ pub struct ReadAnswer {
     pub count: usize,
 }
 
-// What a name given to a call names: an entry with its place in directory order, or the number of the refusal.
-pub enum Named {
-    At(usize, EntryAt),
-    Refused(u8),
-}
-
-// The new blocks that a write needs: 0 and how many they are, or 17 and 0.
-pub struct NewBlocks {
-    pub number: u8,
-    pub blocks: u16,
-}
+// Every list of these calls from an accepted image keeps step with its history.
+pub fn public_runs()
+    ensures { λ _. ⌜ PublicRuns ⌝ }
+{}

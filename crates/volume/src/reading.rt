@@ -6,11 +6,11 @@ use crate::EntryAnswer;
 use crate::FindAnswer;
 use crate::ReadAnswer;
 use crate::answers::no_entry;
+use crate::checking::check;
 use crate::serving::serve_block;
 use crate::serving::serve_entry;
 use crate::serving::serve_find;
 use crate::serving::serve_read;
-use crate::checking::check;
 use model::AllocationBlock;
 use model::Fork;
 

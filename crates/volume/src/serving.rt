@@ -1,21 +1,22 @@
 // What the calls that change nothing answer on an accepted image, whose facts are f.
 ghost use Rattle.model.specs.Calls.{Call, Does};
-ghost use Rattle.volume.specs.Lookup.{Readable};
+ghost use Rattle.files.specs.Lookup.{Readable};
 ghost use Rattle.volume.specs.Told.{toldEntry, toldFind, toldBlock, toldRead};
 use crate::BlockAnswer;
 use crate::EntryAnswer;
 use crate::FindAnswer;
-use crate::Named;
 use crate::ReadAnswer;
 use crate::answers::no_entry;
-use crate::content::copy_fork;
-use crate::lookup::first_entry;
-use crate::lookup::lookup;
 use directory::Found;
+use files::Named;
+use files::first_entry;
+use files::lookup;
+use forks::copy_fork;
 use model::AllocationBlock;
 use model::Fork;
 use model::VolumeFacts;
 
+// For a program that has checked the image: its facts spare the check for each file.
 pub fn serve_entry(image: &[u8], f: VolumeFacts, place: u64) -> EntryAnswer
     requires { ⌜ Readable f (now image) ⌝ }
     ensures { λ r. ⌜ Does (Call.entry place) (now (image .entry)) (toldEntry r) (now (image .exit)) ⌝ }

@@ -1,15 +1,17 @@
 -- `list` is safe and ends. The loop's invariant: `place` is within the number of files, which is below 65536. Assumes nothing.
 use Prim.Native.Nat.{_≤_, _<_, _-_}
 use native.Mathlib.Omega.{arith}
+use denote.Ref.{now}
 use borrow.Author.Needs.{needs}
+use Rattle.volume.proofs.Checked.{checked}
 use Rattle.list.proofs.list.Statement.{statement}
 use Rattle.list.proofs.list.Tie as tie
 
 abbrev Inv-loop : tie.InvT-loop
-Inv-loop image files place₀ place = (place ≤ files) × (files < 65536)
+Inv-loop image checked files place₀ place = (place ≤ files) × (files < 65536)
 
 abbrev μ-loop : tie.MeasureT-loop
-μ-loop image files place₀ place = files - place
+μ-loop image checked files place₀ place = files - place
 
 check-requires : tie.Need-check-requires Inv-loop μ-loop
 check-requires c κs = search needs
@@ -29,8 +31,12 @@ cast-files c = omega arith
 loop-holds : tie.Need-loop-holds Inv-loop μ-loop
 loop-holds c = omega arith
 
-entry-requires : tie.Need-entry-requires Inv-loop μ-loop
-entry-requires c κs = search needs
+serve-entry-requires : tie.Need-serve-entry-requires Inv-loop μ-loop
+serve-entry-requires c κs =
+    let e = c .before .before .before .before in
+    let k = e .before .before in
+    let image = now (k .before .before .args .image) in
+    checked image (k .check .result) image (k .check .ensures) (e .if1 .left)
 
 print-file-requires : tie.Need-print-file-requires Inv-loop μ-loop
 print-file-requires c κs = search needs
@@ -59,7 +65,7 @@ list-spec =
     print-volume-requires
     cast-files
     loop-holds
-    entry-requires
+    serve-entry-requires
     print-file-requires
     add-place
     loop-less

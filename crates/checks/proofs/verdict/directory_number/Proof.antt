@@ -5,7 +5,8 @@ use native.Mathlib.Omega.{arith}
 use lib.ListN.{length}
 use denote.Ref.{now}
 use borrow.Author.Tests.{not-true, not-false}
-use Rattle.model.specs.Check.{fires6}
+use Rattle.model.specs.Lists.{every}
+use Rattle.model.specs.Check.{fires6, goodNumber}
 use Rattle.directory.specs.Cursor.{restOf, Passes}
 use Rattle.checks.proofs.Numbers.{number-6, number-count, number-number, number-clash, number-clear}
 use borrow.Author.Needs.{needs}
@@ -19,11 +20,11 @@ count-entries-requires c κs = search needs
 six : (c : tie.Else1) → let s = c .before .before .before in fires6 (restOf (now (s .args .image)) (s .args .c)) ≡ false
 six c = sym (c .before .count-entries .ensures .six) ∙ c .if1 .left
 
-pass : (c : tie.Else1) → let s = c .before .before .before in Passes (now (s .args .image)) (s .args .c)
-pass c = record { fits = c .before .before .before .pre; good = six c }
-
 counted : (c : tie.Else1) → let s = c .before .before .before in c .before .count-entries .result .count ≡ length (restOf (now (s .args .image)) (s .args .c))
 counted c = c .before .count-entries .ensures .counted (c .if1 .left)
+
+tested : (c : tie.Else1) → let s = c .before .before .before in every (goodNumber (s .args .next)) (restOf (now (s .args .image)) (s .args .c)) ≡ c .before .count-entries .result .numbered
+tested c = sym (c .before .count-entries .ensures .tested (c .if1 .left))
 
 returns : tie.Need-returns
 returns c = number-6 _ _ _ (sym (c .before .count-entries .ensures .six) ∙ c .if1 .taken)
@@ -31,26 +32,22 @@ returns c = number-6 _ _ _ (sym (c .before .count-entries .ensures .six) ∙ c .
 returns-2 : tie.Need-returns-2
 returns-2 c = let k = c .before .before in number-count _ _ _ (six k) (λ q. omega (arith, counted k))
 
-numbers-good-requires : tie.Need-numbers-good-requires
-numbers-good-requires c κs = pass (c .before .before)
-
 returns-3 : tie.Need-returns-3
-returns-3 c = number-number _ _ _ (six (c .before .before .before .before)) (sym (c .before .numbers-good .ensures) ∙ not-true _ (c .if3 .taken))
+returns-3 c = let k = c .before .before .before .before in number-number _ _ _ (six k) (tested k ∙ not-true _ (c .if3 .taken))
 
 all-differ-requires : tie.Need-all-differ-requires
-all-differ-requires c κs = pass (c .before .before .before .before)
+all-differ-requires c κs = let k = c .before .before .before .before in record { fits = k .before .before .before .pre; good = six k }
 
 returns-4 : tie.Need-returns-4
 returns-4 c = number-clash _ _ _ (six (c .before .before .before .before .before .before)) (sym (c .before .all-differ .ensures) ∙ not-true _ (c .if4 .taken))
 
 returns-5 : tie.Need-returns-5
 returns-5 c =
-    let numbers = c .before .before .before in
-    let count = numbers .before in
-    let k = count .before .before in
+    let numbers = c .before .before in
+    let k = numbers .before .before .before .before in
     number-clear _ _ _ (six k)
     (omega (arith, counted k))
-    (sym (numbers .numbers-good .ensures) ∙ not-false _ (c .before .before .if3 .left))
+    (tested k ∙ not-false _ (numbers .if3 .left))
     (sym (c .before .all-differ .ensures) ∙ not-false _ (c .if4 .left))
 
 pub directory-number-spec : {M : Type 1} → statement M
@@ -60,7 +57,6 @@ directory-number-spec =
     count-entries-requires
     returns
     returns-2
-    numbers-good-requires
     returns-3
     all-differ-requires
     returns-4

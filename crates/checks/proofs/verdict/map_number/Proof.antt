@@ -12,35 +12,33 @@ claim-all-requires c κs = search needs
 returns : tie.Need-returns
 returns c = let claim = c .before in number-8 _ (claim .before .before .before .pre .facts .most) _ _ _ _ (claim .claim-all .ensures) (not-true _ (c .if1 .taken))
 
-any-unowned-requires : tie.Need-any-unowned-requires
-any-unowned-requires c κs = search needs
+owned-and-free-requires : tie.Need-owned-and-free-requires
+owned-and-free-requires c κs = search needs
 
 returns-2 : tie.Need-returns-2
 returns-2 c =
-    let past = c .before .before .before in
+    let census = c .before in
+    let past = census .before .before in
     let claim = past .before in
-    number-9 _ (claim .before .before .before .pre .facts .most) _ _ _ _ (claim .claim-all .ensures) (not-false _ (past .if1 .left)) (sym (c .before .any-unowned .ensures) ∙ c .if2 .taken)
-
-count-free-requires : tie.Need-count-free-requires
-count-free-requires c κs = search needs
+    number-9 _ (claim .before .before .before .pre .facts .most) _ _ _ _ (claim .claim-all .ensures) (not-false _ (past .if1 .left)) (sym (census .owned-and-free .ensures .lost) ∙ c .if2 .taken)
 
 returns-3 : tie.Need-returns-3
 returns-3 c =
-    let count = c .before .before in
-    let unowned = count .before in
-    let past = unowned .before .before .before in
+    let owned = c .before .before .before in
+    let census = owned .before in
+    let past = census .before .before in
     let claim = past .before in
-    number-10 _ (claim .before .before .before .pre .facts .most) _ _ _ _ (claim .claim-all .ensures) (not-false _ (past .if1 .left)) (sym (unowned .before .any-unowned .ensures) ∙ unowned .if2 .left)
-    _ (count .count-free .ensures) (c .if3 .taken)
+    number-10 _ (claim .before .before .before .pre .facts .most) _ _ _ _ (claim .claim-all .ensures) (not-false _ (past .if1 .left)) (sym (census .owned-and-free .ensures .lost) ∙ owned .if2 .left)
+    _ (census .owned-and-free .ensures .counted) (c .if3 .taken)
 
 returns-4 : tie.Need-returns-4
 returns-4 c =
-    let count = c .before .before in
-    let unowned = count .before in
-    let past = unowned .before .before .before in
+    let owned = c .before .before .before in
+    let census = owned .before in
+    let past = census .before .before in
     let claim = past .before in
-    number-0 _ (claim .before .before .before .pre .facts .most) _ _ _ _ (claim .claim-all .ensures) (not-false _ (past .if1 .left)) (sym (unowned .before .any-unowned .ensures) ∙ unowned .if2 .left)
-    _ (count .count-free .ensures) (c .if3 .left)
+    number-0 _ (claim .before .before .before .pre .facts .most) _ _ _ _ (claim .claim-all .ensures) (not-false _ (past .if1 .left)) (sym (census .owned-and-free .ensures .lost) ∙ owned .if2 .left)
+    _ (census .owned-and-free .ensures .counted) (c .if3 .left)
 
 pub map-number-spec : {M : Type 1} → statement M
 map-number-spec =
@@ -48,8 +46,7 @@ map-number-spec =
     (tie.spec
     claim-all-requires
     returns
-    any-unowned-requires
+    owned-and-free-requires
     returns-2
-    count-free-requires
     returns-3
     returns-4)

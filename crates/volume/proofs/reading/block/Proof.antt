@@ -1,7 +1,7 @@
 -- `block` meets its contract. Assumes nothing.
 use native.Mathlib.Omega.{arith}
 use denote.Ref.{now}
-use Rattle.volume.proofs.Octets.{octets}
+use Rattle.files.proofs.Octets.{octets}
 use Rattle.volume.proofs.Checked.{checked, unchecked}
 use Rattle.volume.proofs.Replies.{block-stopped}
 use borrow.Author.Needs.{needs}

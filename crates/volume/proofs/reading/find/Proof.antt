@@ -1,6 +1,6 @@
 -- `find` meets its contract. Assumes nothing.
 use denote.Ref.{now}
-use Rattle.volume.proofs.Octets.{octets}
+use Rattle.files.proofs.Octets.{octets}
 use Rattle.volume.proofs.Checked.{checked, unchecked}
 use Rattle.volume.proofs.Replies.{find-stopped}
 use borrow.Author.Needs.{needs}

@@ -3,10 +3,10 @@ use native.Mathlib.Omega.{arith}
 use native.Mathlib.Nat.{div-le-self}
 use denote.Ref.{now}
 use Rattle.model.specs.Facts.{A}
-use Rattle.volume.specs.Lookup.{Found}
-use Rattle.volume.proofs.Octets.{octets}
-use Rattle.volume.proofs.Lookups.{names-file, names-none}
-use Rattle.volume.proofs.Forks.{few-blocks, has-place, large-block, long-image}
+use Rattle.files.specs.Lookup.{Found}
+use Rattle.files.proofs.Octets.{octets}
+use Rattle.files.proofs.Lookups.{names-file, names-none}
+use Rattle.files.proofs.Forks.{few-blocks, has-place, large-block, long-image}
 use Rattle.volume.proofs.Replies.{block-refused, block-beyond, block-served}
 use borrow.Author.Needs.{needs}
 use Rattle.volume.proofs.serving.serve_block.Statement.{statement}

@@ -3,8 +3,8 @@ use native.Mathlib.Omega.{arith}
 use denote.Ref.{now}
 use Rattle.model.specs.Directory.{directory}
 use Rattle.directory.specs.Search.{Placed}
-use Rattle.volume.proofs.Octets.{octets}
-use Rattle.volume.proofs.Lookups.{some-block, first-passes, given-at, given-none}
+use Rattle.files.proofs.Octets.{octets}
+use Rattle.files.proofs.Lookups.{some-block, first-passes, given-at, given-none}
 use Rattle.volume.proofs.Replies.{entry-refused, entry-served}
 use borrow.Author.Needs.{needs}
 use Rattle.volume.proofs.serving.serve_entry.Statement.{statement}

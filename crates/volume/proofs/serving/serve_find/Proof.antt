@@ -1,8 +1,8 @@
 -- `serve_find` meets its contract. Assumes nothing.
 use denote.Ref.{now}
-use Rattle.volume.specs.Lookup.{Found}
-use Rattle.volume.proofs.Octets.{octets}
-use Rattle.volume.proofs.Lookups.{names-file, names-none}
+use Rattle.files.specs.Lookup.{Found}
+use Rattle.files.proofs.Octets.{octets}
+use Rattle.files.proofs.Lookups.{names-file, names-none}
 use Rattle.volume.proofs.Replies.{find-refused, find-served}
 use borrow.Author.Needs.{needs}
 use Rattle.volume.proofs.serving.serve_find.Statement.{statement}

@@ -1,10 +1,10 @@
 -- `serve_read` meets its contract. Assumes nothing.
 use native.Mathlib.Omega.{arith}
 use denote.Ref.{now}
-use Rattle.volume.specs.Lookup.{Found}
-use Rattle.volume.proofs.Octets.{octets}
-use Rattle.volume.proofs.Lookups.{names-file, names-none}
-use Rattle.volume.proofs.Forks.{fork-copyable}
+use Rattle.files.specs.Lookup.{Found}
+use Rattle.files.proofs.Octets.{octets}
+use Rattle.files.proofs.Lookups.{names-file, names-none}
+use Rattle.files.proofs.Forks.{fork-copyable}
 use Rattle.volume.proofs.Replies.{read-refused, read-beyond, read-served}
 use borrow.Author.Needs.{needs}
 use Rattle.volume.proofs.serving.serve_read.Statement.{statement}

@@ -1,0 +1,92 @@
+-- Laws of the search in an accepted image's directory: the cursor at its first entry, what is found from there on, and what a
+-- name names.
+use Prim.Native.Nat.{ℕ, _*_, _≤_, _<_}
+use mathlib.Core.Path.{_≡_}
+use mathlib.Core.Bool.{true, false}
+use mathlib.Core.List.{List}
+use native.Mathlib.Omega.{arith}
+use lib.ListN.{length}
+use borrow.Author.Tests.{eq-eqb, ne-eqb, lt-ltb, le-ltb}
+use Rattle.model.specs.Facts.{factsOf, dirStart, dirLength}
+use Rattle.model.specs.Lists.{any}
+use Rattle.model.specs.Directory.{directory, named}
+use Rattle.model.specs.Calls.{badName}
+use Rattle.model.proofs.Check.{accepted-passes}
+use Rattle.directory.specs.Cursor.{restOf, Passes, Begins}
+use Rattle.directory.specs.Search.{Finds, Located, Gives, Placed}
+use Rattle.directory.proofs.Whole.{begins-directory, sound-passes}
+use Rattle.directory.proofs.Located.{begins-comes}
+use Rattle.model.specs.declared.VolumeFacts.{VolumeFacts}
+use Rattle.directory.specs.declared.Cursor.{Cursor}
+use Rattle.directory.specs.declared.EntryAt.{EntryAt}
+use Rattle.directory.specs.declared.Found as sort
+use Rattle.directory.specs.declared.Found.the-variants as found
+use Rattle.files.specs.declared.Named.{Named}
+use Rattle.files.specs.declared.Named.the-variants.{At, Refused}
+use Rattle.files.specs.Lookup.{Readable, Found, Missed, Names}
+
+-- ---- names
+
+module _ (name : List ℕ) where
+  pub empty-bad : length name ≡ 0 → badName name ≡ true
+  unfolding badName
+  empty-bad h = rw (eq-eqb (length name) 0 h)
+
+  pub long-bad : 255 < length name → badName name ≡ true
+  unfolding badName
+  long-bad h = rw (ne-eqb (length name) 0 (λ z. omega arith), lt-ltb 255 (length name) h)
+
+  pub title-good : (length name ≡ 0 → ⊥) → length name ≤ 255 → badName name ≡ false
+  unfolding badName
+  title-good z h = rw (ne-eqb (length name) 0 z, le-ltb 255 (length name) h)
+
+-- a bad name
+pub missed-title : (image name : List ℕ) → badName name ≡ true → Missed image name 12
+missed-title image name h = record { fires = rw h; some = λ z. omega arith }
+
+-- what a name names, by its case
+module _ (image name : List ℕ) (n : Named) (h : Names image name n) where
+  pub names-file : (place : ℕ) (e : EntryAt) → n ≡ At place e → Found image name place e
+  names-file place e p = rw p at h
+
+  pub names-none : (number : ℕ) → n ≡ Refused number → Missed image name number
+  names-none number p = rw p at h
+
+-- ---- an accepted image's directory
+
+module _ {f : VolumeFacts} {image : List ℕ} (r : Readable f image) where
+  pub some-block : 1 ≤ dirLength f
+  some-block = rw (r .facts) (r .accepted .facts .dirSome)
+
+  -- from its first entry on
+  module _ (c : Cursor) (b : Begins (dirStart f) (dirLength f) c) where
+    begins : Begins (dirStart (factsOf image)) (dirLength (factsOf image)) c
+    begins = rw (r .facts) at b
+
+    pub first-passes : Passes image c
+    first-passes = sound-passes image c begins (r .accepted .facts) (accepted-passes image (r .accepted) .pass6)
+
+    first-rest : restOf image c ≡ directory image
+    first-rest = begins-directory image c begins
+
+    module _ (asked : ℕ) (s : sort.Found) (h : Gives image (restOf image c) asked s) where
+      pub given-at : (place : ℕ) (e : EntryAt) → s ≡ found.At place e → Placed image (directory image) asked place e
+      given-at place e p = rw first-rest at (rw p at h)
+
+      pub given-none : s ≡ found.Nothing → length (directory image) ≤ asked
+      given-none p = rw first-rest at (rw p at h)
+
+    module _ (name : List ℕ) (s : sort.Found) (h : Finds image name (restOf image c) s) (l : Located image c s) (good : badName name ≡ false) where
+      pub found-at : (place : ℕ) (e : EntryAt) → s ≡ found.At place e → Found image name place e
+      found-at place e p =
+          let f′ = factsOf image in
+          record {
+            title = good;
+            there = rw first-rest at (rw p at h);
+            lies = (rw p at l) (512 * dirStart f′) (dirLength f′) (begins-comes image (dirStart f′) (dirLength f′) c begins);
+          }
+
+      pub found-none : s ≡ found.Nothing → Missed image name 13
+      found-none p =
+          let none : any (named name) (directory image) ≡ false = rw first-rest at (rw p at h) in
+          record { fires = rw (good, none); some = λ z. omega arith }

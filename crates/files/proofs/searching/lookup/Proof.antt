@@ -1,0 +1,61 @@
+-- `lookup` meets its contract. Assumes nothing.
+use mathlib.Core.Path.{_≡_}
+use mathlib.Core.Bool.{false}
+use denote.Ref.{now}
+use Rattle.model.specs.Calls.{badName}
+use Rattle.files.proofs.Lookups.{empty-bad, long-bad, title-good, missed-title, some-block, first-passes, found-at, found-none}
+use borrow.Author.Needs.{needs}
+use Rattle.files.proofs.searching.lookup.Statement.{statement}
+use Rattle.files.proofs.searching.lookup.Tie as tie
+
+returns : tie.Need-returns
+returns c =
+    let a = c .before .before .before .args in
+    missed-title (now (a .image)) (now (a .name)) (empty-bad (now (a .name)) (c .if1 .taken))
+
+returns-2 : tie.Need-returns-2
+returns-2 c =
+    let a = c .before .before .before .before .args in
+    missed-title (now (a .image)) (now (a .name)) (long-bad (now (a .name)) (c .if2 .taken))
+
+first-entry-requires : tie.Need-first-entry-requires
+first-entry-requires c κs = some-block (c .before .before .before .before .pre)
+
+locate-requires : tie.Need-locate-requires
+locate-requires c κs = first-passes (c .before .before .before .before .before .pre) (c .first-entry .result) (c .first-entry .ensures)
+
+enum-known-place : tie.Need-enum-known-place
+enum-known-place c = search needs
+
+enum-told : tie.Need-enum-told
+enum-told c = search needs
+
+good : (c : tie.Else2) → badName (now (c .before .before .before .before .args .name)) ≡ false
+good c = title-good (now (c .before .before .before .before .args .name)) (c .before .if1 .left) (c .if2 .left)
+
+returns-3 : tie.Need-returns-3
+returns-3 c =
+    let f = c .before .before .before in
+    let k = f .before in
+    let s = k .before .before .before .before .before in
+    found-at (s .pre) (k .first-entry .result) (k .first-entry .ensures) (now (s .args .name)) (f .locate .result) (f .locate .ensures .0) (f .locate .ensures .1) (good (k .before)) _ _ (c .before .place .given .1)
+
+returns-4 : tie.Need-returns-4
+returns-4 c =
+    let f = c .before .before in
+    let k = f .before in
+    let s = k .before .before .before .before .before in
+    found-none (s .pre) (k .first-entry .result) (k .first-entry .ensures) (now (s .args .name)) (f .locate .result) (f .locate .ensures .0) (f .locate .ensures .1) (good (k .before)) (c .enum-told .given .1)
+
+pub lookup-spec : {M : Type 1} → statement M
+lookup-spec =
+    tie.close
+    (tie.spec
+    returns
+    returns-2
+    first-entry-requires
+    locate-requires
+    enum-known-place
+    enum-told
+    returns-3
+    returns-4)

@@ -1,0 +1,50 @@
+-- What a name given to a call names.
+use Prim.Native.Nat.{ℕ, _*_}
+use mathlib.Core.Path.{_≡_}
+use mathlib.Core.Bool.{false, not}
+use mathlib.Core.List.{List}
+use Rattle.model.specs.Facts.{factsOf, dirStart, dirLength}
+use Rattle.model.specs.Lists.{any}
+use Rattle.model.specs.Directory.{directory, forkOf, named}
+use Rattle.model.specs.Check.{orElse, Accepted}
+use Rattle.model.specs.Calls.{badName}
+use Rattle.directory.specs.Cursor.{bytesAt, Lies}
+use Rattle.directory.specs.Search as search
+use Rattle.directory.specs.declared.EntryAt.{EntryAt}
+use Rattle.model.specs.declared.VolumeFacts.{VolumeFacts}
+use Rattle.model.specs.declared.Fork.{Fork}
+use Rattle.model.specs.declared.ForkFacts.{ForkFacts}
+use Rattle.files.specs.declared.Named.{Named}
+use Rattle.files.specs.declared.Named.the-variants.{At, Refused}
+
+-- an accepted image and its facts
+pub record Readable (f : VolumeFacts) (image : List ℕ) : Type 0 where
+  pub facts : f ≡ factsOf image
+  pub accepted : Accepted image
+
+-- the entry of a good name, with its place in directory order, and where in the directory it stands
+pub record Found (image name : List ℕ) (place : ℕ) (e : EntryAt) : Type 0 where
+  pub title : badName name ≡ false
+  pub there : search.Named image name (directory image) place e
+  pub lies : Lies image (512 * dirStart (factsOf image)) (dirLength (factsOf image)) e
+
+-- 12 or 13
+pub record Missed (image name : List ℕ) (number : ℕ) : Type 0 where
+  pub fires : number ≡ orElse (badName name) 12 (orElse (not (any (named name) (directory image))) 13 0)
+  pub some : number ≡ 0 → ⊥
+
+abbrev pub Names : List ℕ → List ℕ → Named → Type 0
+Names image name (At place e) = Found image name place e
+Names image name (Refused number) = Missed image name number
+
+-- e is the entry of a name in an accepted image, whose facts are f
+pub record Held (f : VolumeFacts) (image : List ℕ) (e : EntryAt) : Type 0 where
+  pub readable : Readable f image
+  pub name : List ℕ
+  pub place : ℕ
+  pub found : Found image name place e
+
+-- and g is a fork of it
+pub record HeldFork (f : VolumeFacts) (image : List ℕ) (e : EntryAt) (fork : Fork) (g : ForkFacts) : Type 0 where
+  pub held : Held f image e
+  pub is : g ≡ forkOf fork (bytesAt image e)

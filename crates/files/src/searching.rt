@@ -1,0 +1,35 @@
+// From a name to its entry: refusals 12 and 13.
+ghost use Prim.Native.Nat.{_≤_};
+ghost use Rattle.model.specs.Facts.{dirStart, dirLength};
+ghost use Rattle.directory.specs.Cursor.{Begins};
+ghost use Rattle.files.specs.Lookup.{Readable, Names};
+use crate::Named;
+use directory::Cursor;
+use directory::Found;
+use model::VolumeFacts;
+
+// At the first entry of the volume's directory.
+pub fn first_entry(f: VolumeFacts) -> Cursor
+    requires { ⌜ 1 ≤ dirLength f ⌝ }
+    ensures { λ r. ⌜ Begins (dirStart f) (dirLength f) r ⌝ }
+{
+    let start = f.directory_start;
+    Cursor::new(start, f.directory_length)
+}
+
+// The entry that the name names.
+pub fn lookup(image: &[u8], f: VolumeFacts, name: &[u8]) -> Named
+    requires { ⌜ Readable f (now image) ⌝ }
+    ensures { λ r. ⌜ Names (now (image .entry)) (now (name .entry)) r ⌝ }
+{
+    if name.len() == 0 {
+        return Named::Refused(12);
+    }
+    if 255 < name.len() {
+        return Named::Refused(12);
+    }
+    match directory::locate(image, first_entry(f), name) {
+        Found::At(place, e) => Named::At(place, e),
+        Found::Nothing => Named::Refused(13),
+    }
+}

@@ -1,0 +1,220 @@
+-- `fill_fork` meets its contract. The invariant: the first `stored` bytes are stored, and the next belongs at place `at` of
+-- `block`. Assumes nothing.
+use Prim.Native.Nat.{ℕ, _+_, _-_, _%_, _≤_, _<_}
+use mathlib.Core.Path.{_≡_, ap, _∙_}
+use mathlib.Core.List.{List}
+use native.Mathlib.Omega.{arith}
+use native.Mathlib.Nat.{mod-lt}
+use denote.Ref.{now}
+use lib.ListN.{length, drop}
+use lib.Seq.{paste}
+use Rattle.model.specs.Facts.{blockByte}
+use Rattle.model.specs.Map.{mapEntry, chainBlocks}
+use Rattle.model.specs.Calls.{putContent}
+use Rattle.forks.proofs.Filling.{Due, due-block, due-lies, Partway, partway-first, partway-last, partway-next}
+use Rattle.forks.proofs.Filling.{fill-none, fill-small, fill-place, fill-due}
+use Rattle.forks.proofs.content.fill_fork.Statement.{statement}
+use Rattle.forks.proofs.content.fill_fork.Tie as tie
+
+abbrev Inv-loop : tie.InvT-loop
+Inv-loop image₀ start size blocks offset bytes count a block₀ at₀ stored₀ image block at stored =
+    Partway image₀ (start .0) size bytes (block₀ .0) at₀ (block .0) at stored image
+
+abbrev μ-loop : tie.MeasureT-loop
+μ-loop image₀ start size blocks offset bytes count a block₀ at₀ stored₀ image block at stored = count - stored
+
+-- no bytes
+returns : tie.Need-returns Inv-loop μ-loop
+returns c =
+    let f = c .before .before .before in
+    let a = f .args in
+    fill-none (now (a .image)) (a .start .0) (a .size) (a .first .0) (a .blocks) (f .pre .0) (a .offset) (now (a .bytes)) (f .pre .1) (c .if1 .taken)
+
+-- ---- before the loop
+
+div-block-at : tie.Need-div-block-at Inv-loop μ-loop
+div-block-at c = omega (arith, c .before .before .before .before .pre .0 .block)
+
+some : (c : tie.Else1 Inv-loop μ-loop) → 1 ≤ length (now (c .before .before .before .args .bytes))
+some c = omega (arith, c .if1 .left)
+
+cast-block-at : tie.Need-cast-block-at Inv-loop μ-loop
+cast-block-at c =
+    let f = c .before .before .before .before in
+    let a = f .args in
+    omega (arith, fill-small (now (a .image)) (a .start .0) (a .size) (a .first .0) (a .blocks) (f .pre .0) (a .offset) (now (a .bytes)) (f .pre .1) (some (c .before)))
+
+block-at-requires : tie.Need-block-at-requires Inv-loop μ-loop
+block-at-requires c κs =
+    let f = c .before .before .before .before in
+    let a = f .args in (
+      fill-place (now (a .image)) (a .start .0) (a .size) (a .first .0) (a .blocks) (f .pre .0) (a .offset) (now (a .bytes)) (f .pre .1) (some (c .before)),
+      omega (arith, f .pre .0 .low, f .pre .0 .room),
+    )
+
+rem-at : tie.Need-rem-at Inv-loop μ-loop
+rem-at c = omega (arith, c .before .before .before .before .before .pre .0 .block)
+
+loop-holds : tie.Need-loop-holds Inv-loop μ-loop
+loop-holds c =
+    let f = c .before .before .before .before .before in
+    let a = f .args in
+    let pos : 0 < a .size = omega (arith, f .pre .0 .block) in
+    partway-first (now (a .image)) (a .start .0) (a .size) (now (a .bytes)) (c .block-at .result .0) (a .offset % a .size) (some (c .before .before)) (mod-lt (a .offset) pos)
+
+-- ---- in the loop
+
+-- the image that is due
+abbrev filled : tie.At-loop Inv-loop μ-loop → List ℕ
+filled c =
+    let a = c .before .before .before .before .before .before .args in
+    putContent (a .start .0) (a .size) (now (a .image)) (chainBlocks (mapEntry (now (a .image))) (a .blocks) (a .first .0)) (a .offset) (now (a .bytes))
+
+begins : (c : tie.At-loop Inv-loop μ-loop) → let a = c .before .before .before .before .before .before .args in
+    Due (now (a .image)) (a .start .0) (a .size) (now (a .image)) (c .before .block-at .result .0) (a .offset % a .size) (now (a .bytes)) (filled c)
+begins c =
+    let f = c .before .before .before .before .before .before in
+    let a = f .args in
+    fill-due (now (a .image)) (a .start .0) (a .size) (a .first .0) (a .blocks) (f .pre .0) (a .offset) (now (a .bytes)) (f .pre .1) (some (c .before .before .before))
+    (c .before .block-at .result .0) (c .before .block-at .ensures)
+
+goes-on : (c : tie.At-loop Inv-loop μ-loop) → let a = c .before .before .before .before .before .before .args in
+    Due (now (a .image)) (a .start .0) (a .size) (c .loop .image) (c .loop .block .0) (c .loop .at) (drop (c .loop .stored) (now (a .bytes))) (filled c)
+goes-on c = c .loop .inv .due (filled c) (begins c)
+
+numbered : (c : tie.At-loop Inv-loop μ-loop) → (2 ≤ c .loop .block .0) × (c .loop .block .0 ≤ 641)
+numbered c =
+    let a = c .before .before .before .before .before .before .args in
+    due-block (now (a .image)) (a .start .0) (a .size) (c .loop .image) (c .loop .block .0) (c .loop .at) (drop (c .loop .stored) (now (a .bytes))) (filled c) (goes-on c)
+
+lies : (c : tie.At-loop Inv-loop μ-loop) → let a = c .before .before .before .before .before .before .args in
+    blockByte (a .start .0) (a .size) (c .loop .block .0) + a .size ≤ length (c .loop .image)
+lies c =
+    let a = c .before .before .before .before .before .before .args in
+    due-lies (now (a .image)) (a .start .0) (a .size) (c .loop .image) (c .loop .block .0) (c .loop .at) (drop (c .loop .stored) (now (a .bytes))) (filled c) (goes-on c)
+
+sub-smaller : tie.Need-sub-smaller Inv-loop μ-loop
+sub-smaller c = omega (arith, c .loop .inv .here)
+
+sub-smaller-2 : tie.Need-sub-smaller-2 Inv-loop μ-loop
+sub-smaller-2 c = omega (arith, c .loop .inv .more)
+
+smaller-requires : tie.Need-smaller-requires Inv-loop μ-loop
+smaller-requires c κs = tt
+
+logical-requires : tie.Need-logical-requires Inv-loop μ-loop
+logical-requires c κs =
+    let h = c .before .before .before .before .before .before .before .pre .0 in
+    let b = numbered (c .before) in
+    omega (arith, h .whole, h .most, h .start)
+
+byte-requires : tie.Need-byte-requires Inv-loop μ-loop
+byte-requires c κs = tt
+
+-- where the bytes of this turn belong, and how many they are
+to-block : (c : tie.After-byte Inv-loop μ-loop) → let l = c .before .before .before in let a = l .before .before .before .before .before .before .args in
+    c .byte .result ≡ blockByte (a .start .0) (a .size) (l .loop .block .0)
+to-block c = c .byte .ensures ∙ c .before .logical .ensures
+
+abbrev number : tie.After-byte Inv-loop μ-loop → ℕ
+number c = c .before .before .smaller .result
+
+in-block : (c : tie.After-byte Inv-loop μ-loop) → let l = c .before .before .before in
+    l .loop .at + number c ≤ l .before .before .before .before .before .before .args .size
+in-block c = let m = c .before .before .before .loop .inv in omega (arith, c .before .before .smaller .ensures, m .here)
+
+in-count : (c : tie.After-byte Inv-loop μ-loop) → let l = c .before .before .before in
+    l .loop .stored + number c ≤ length (now (l .before .before .before .before .before .before .args .bytes))
+in-count c = let m = c .before .before .before .loop .inv in omega (arith, c .before .before .smaller .ensures, m .more)
+
+add-to : tie.Need-add-to Inv-loop μ-loop
+add-to c =
+    let l = c .before .before .before in
+    let m = l .loop .inv in
+    omega (arith, to-block c, lies l, m .here, m .size, l .before .before .before .before .before .before .good)
+
+copy-part-requires : tie.Need-copy-part-requires Inv-loop μ-loop
+copy-part-requires c κs =
+    let y = c .before in
+    let l = y .before .before .before in
+    (in-count y, omega (arith, to-block y, lies l, in-block y))
+
+add-stored : tie.Need-add-stored Inv-loop μ-loop
+add-stored c =
+    let y = c .before .before .before .before in
+    omega (arith, in-count y, y .before .before .before .before .before .before .before .before .before .good)
+
+-- ---- after the store
+
+after : (c : tie.After-copy-part Inv-loop μ-loop) → let y = c .before .before in let l = y .before .before .before in let a = l .before .before .before .before .before .before .args in
+    c .copy-part .last .1 .1 .0
+    ≡ paste (l .loop .image) (blockByte (a .start .0) (a .size) (l .loop .block .0) + l .loop .at) (drop (l .loop .stored) (now (a .bytes))) (number y)
+after c =
+    let y = c .before .before in
+    let l = y .before .before .before in
+    let a = l .before .before .before .before .before .before .args in
+    c .copy-part .ensures ∙ ap (λ q. paste (l .loop .image) (q + l .loop .at) (drop (l .loop .stored) (now (a .bytes))) (number y)) (to-block y)
+
+same-length : tie.Need-same-length Inv-loop μ-loop
+same-length c = let k = c .before .before .before in k .copy-part .kept .1 .1 .0 ∙ k .before .before .before .before .before .loop .inv .size
+
+returns-2 : tie.Need-returns-2 Inv-loop μ-loop
+returns-2 c =
+    let k = c .before .before .before in
+    let y = k .before .before in
+    let l = y .before .before .before in
+    let a = l .before .before .before .before .before .before .args in
+    let end : l .loop .stored + number y ≡ length (now (a .bytes)) = omega (arith, in-count y, c .if2 .taken) in
+    after k
+    ∙ partway-last (now (a .image)) (a .start .0) (a .size) (now (a .bytes)) (l .before .block-at .result .0) (a .offset % a .size) (l .loop .block .0) (l .loop .at) (l .loop .stored)
+    (l .loop .image) (l .loop .inv) (number y) (in-block y) end (filled l) (begins l)
+
+load-requires : tie.Need-load-requires Inv-loop μ-loop
+load-requires c κs =
+    let k = c .before .before .before .before in
+    let l = k .before .before .before .before .before in
+    let b = numbered l in
+    let h = l .before .before .before .before .before .before .pre .0 in
+    (b .0, b .1, omega (arith, h .low, h .room, l .loop .inv .size, k .copy-part .kept .1 .1 .0))
+
+loop-less : tie.Need-loop-less Inv-loop μ-loop
+loop-less c =
+    let y = c .before .before .before .before .before .before .before in
+    let m = y .before .before .before .loop .inv in
+    omega (arith, y .before .before .smaller .ensures, m .here, m .more)
+
+loop-again : tie.Need-loop-again Inv-loop μ-loop
+loop-again c =
+    let k = c .before .before .before .before .before in
+    let y = k .before .before in
+    let l = y .before .before .before in
+    let a = l .before .before .before .before .before .before .args in
+    let end : l .loop .at + number y ≡ a .size = omega (arith, y .before .before .smaller .ensures, c .before .before .if2 .left, l .loop .inv .here) in
+    partway-next (now (a .image)) (a .start .0) (a .size) (now (a .bytes)) (l .before .block-at .result .0) (a .offset % a .size) (l .loop .block .0) (l .loop .at) (l .loop .stored)
+    (l .loop .image) (l .loop .inv) (number y) (c .load .result) (k .copy-part .last .1 .1 .0) end (c .before .before .if2 .left) (k .copy-part .kept .1 .1 .0) (after k) (c .load .ensures .0)
+
+pub fill-fork-spec : {M : Type 1} → statement M
+fill-fork-spec =
+    tie.close
+    (tie.spec
+    Inv-loop
+    μ-loop
+    returns
+    div-block-at
+    cast-block-at
+    block-at-requires
+    rem-at
+    loop-holds
+    sub-smaller
+    sub-smaller-2
+    smaller-requires
+    logical-requires
+    byte-requires
+    add-to
+    copy-part-requires
+    add-stored
+    same-length
+    returns-2
+    load-requires
+    loop-less
+    loop-again)

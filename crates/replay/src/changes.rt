@@ -1,0 +1,116 @@
+// The records of the calls that change the image: each reads its fields, makes the call and prints its line. False ends the run.
+ghost use mathlib.Core.Path.{_≡_};
+ghost use lib.ListN.{length};
+use crate::input;
+use crate::input::DateField;
+use crate::input::Field;
+use crate::input::ForkField;
+use crate::line;
+
+// The most bytes of a write.
+const MOST_WRITTEN: usize = 65_535;
+
+// Room for the bytes of a write. Only the length is known of it.
+fn unwritten() -> [u8; MOST_WRITTEN]
+    ensures { λ r. ⌜ 65535 ≡ length r ⌝ }
+{
+    [0; MOST_WRITTEN]
+}
+
+// The line of a call that gives back its number alone.
+fn tell(image: &[u8], tag: u8, number: u8) {
+    let mut line = text::empty();
+    let at = line::start(&mut line, tag, number);
+    line::end(&mut line, at, image);
+}
+
+pub fn create(image: &mut [u8]) -> bool {
+    let mut name = input::name_space();
+    let Field::Is(length) = input::name(&mut name) else {
+        return false;
+    };
+    let mut finder = [0u8; 16];
+    let Field::Is(_) = input::finder(&mut finder) else {
+        return false;
+    };
+    let DateField::Is(created) = input::date() else {
+        return false;
+    };
+    let DateField::Is(changed) = input::date() else {
+        return false;
+    };
+    let number = volume::create(
+        image,
+        text::first(&name, length as usize),
+        &finder,
+        created,
+        changed,
+    );
+    tell(image, b'N', number);
+    true
+}
+
+pub fn write(image: &mut [u8]) -> bool {
+    let mut name = input::name_space();
+    let Field::Is(length) = input::name(&mut name) else {
+        return false;
+    };
+    let ForkField::Is(fork) = input::fork() else {
+        return false;
+    };
+    let Field::Is(offset) = input::number64() else {
+        return false;
+    };
+    let mut bytes = unwritten();
+    let Field::Is(count) = input::bytes(&mut bytes) else {
+        return false;
+    };
+    let DateField::Is(changed) = input::date() else {
+        return false;
+    };
+    let number = volume::write(
+        image,
+        text::first(&name, length as usize),
+        fork,
+        offset,
+        text::first(&bytes, count as usize),
+        changed,
+    );
+    tell(image, b'W', number);
+    true
+}
+
+pub fn cut(image: &mut [u8]) -> bool {
+    let mut name = input::name_space();
+    let Field::Is(length) = input::name(&mut name) else {
+        return false;
+    };
+    let ForkField::Is(fork) = input::fork() else {
+        return false;
+    };
+    let Field::Is(size) = input::number64() else {
+        return false;
+    };
+    let DateField::Is(changed) = input::date() else {
+        return false;
+    };
+    let number = volume::cut(
+        image,
+        text::first(&name, length as usize),
+        fork,
+        size,
+        changed,
+    );
+    tell(image, b'U', number);
+    true
+}
+
+pub fn delete(image: &mut [u8]) -> bool {
+    let mut name = input::name_space();
+    let Field::Is(length) = input::name(&mut name) else {
+        return false;
+    };
+    let number = volume::delete(image, text::first(&name, length as usize));
+    tell(image, b'D', number);
+    true
+}
