@@ -23,7 +23,7 @@ import replay
 import volume
 
 # Which of the two lists of calls is the repository's: 'reading' or 'all'.
-CALLS = 'reading'
+CALLS = 'all'
 
 READING = 'CEFBR'
 ALL = 'CEFBRNWUD'
