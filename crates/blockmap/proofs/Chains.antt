@@ -10,9 +10,9 @@ use borrow.Author.Tests.{eq-eqb, ne-eqb}
 use Rattle.model.specs.Lists.{flat, times}
 use Rattle.model.specs.Map.{runs, chainBlocks}
 use Rattle.model.proofs.Map.{block-low, block-high, runs-block, runs-rest, chain-once, length-chain}
-use Rattle.model.proofs.Sound.{held, Each, linked-keep, Sound}
-use Rattle.model.proofs.Chains.{runs-linked}
-use Rattle.model.proofs.Free.{free-count}
+use Rattle.laws.proofs.Sound.{held, Each, linked-keep, Sound}
+use Rattle.laws.proofs.Chains.{runs-linked}
+use Rattle.laws.proofs.Free.{free-count}
 use Rattle.blockmap.specs.Places.{HasPlace, IsPlace}
 
 -- ---- a chain has at most N blocks

@@ -13,9 +13,9 @@ use borrow.Author.Tests.{ne-eqb}
 use Rattle.model.specs.Bytes.{Bytes}
 use Rattle.model.specs.Lists.{firstOr0}
 use Rattle.model.specs.Map.{mapEntry, setEntry, behind, runs, chainBlocks, freeBlocks, putChain, putFree}
-use Rattle.model.proofs.Entries.{mapEntry-setEntry, mapEntry-setEntry-other}
+use Rattle.laws.proofs.Entries.{mapEntry-setEntry, mapEntry-setEntry-other}
 use Rattle.model.proofs.Map.{runs-rest, runs-end, runs-block, chain-once, chain-low, block-low, block-high, length-chain}
-use Rattle.model.proofs.Joins.{other}
+use Rattle.laws.proofs.Joins.{other}
 use Rattle.blockmap.specs.Free.{freeFrom, IsFree}
 use Rattle.blockmap.proofs.Chains.{at}
 use Rattle.blockmap.proofs.Linking.{free-hit, free-all, free-same, join-at, standing, runs-at, take-chain, drop-chain, chain-keep}

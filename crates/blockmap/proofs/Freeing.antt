@@ -8,12 +8,12 @@ use native.Mathlib.Omega.{arith}
 use lib.ListN.{length}
 use Rattle.model.specs.Lists.{times}
 use Rattle.model.specs.Map.{mapEntry, setEntry, behind, runs, chainBlocks, putFree}
-use Rattle.model.proofs.Entries.{length-setEntry, mapEntry-setEntry-other}
+use Rattle.laws.proofs.Entries.{length-setEntry, mapEntry-setEntry-other}
 use Rattle.model.proofs.Times.{times-tail}
 use Rattle.model.proofs.Map.{chain-once, length-chain}
-use Rattle.model.proofs.Sound.{held, Each, Linked, linked-keep, used}
-use Rattle.model.proofs.Chains.{runs-linked}
-use Rattle.model.proofs.Joins.{Once, other}
+use Rattle.laws.proofs.Sound.{held, Each, Linked, linked-keep, used}
+use Rattle.laws.proofs.Chains.{runs-linked}
+use Rattle.laws.proofs.Joins.{Once, other}
 
 -- linked blocks are blocks
 linked-low : (e : ℕ → ℕ) (n : ℕ) (bs : List ℕ) (b : ℕ) → Linked e n bs → 1 ≤ times b bs → 2 ≤ b

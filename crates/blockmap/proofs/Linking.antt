@@ -12,7 +12,7 @@ use borrow.Author.Tests.{eq-eqb, ne-eqb}
 use Rattle.model.specs.Bytes.{Bytes}
 use Rattle.model.specs.Lists.{keep, times}
 use Rattle.model.specs.Map.{entryByte, joined, firstByte, secondByte, mapEntry, setEntry, behind, runs, chainBlocks, freeBlocks, putChain}
-use Rattle.model.proofs.Entries.{length-setEntry, mapEntry-setEntry-other}
+use Rattle.laws.proofs.Entries.{length-setEntry, mapEntry-setEntry-other}
 use Rattle.model.proofs.Times.{times-head, times-tail}
 use Rattle.model.proofs.Map.{runs-rest, runs-end, end-runs, runs-block, runs-more}
 use Rattle.blockmap.specs.Free.{freeFrom, IsFree}

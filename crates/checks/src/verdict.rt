@@ -93,7 +93,7 @@ fn directory_number(image: &[u8], c: Cursor, files: u16, next: u32) -> u8
     requires { ⌜ Fits (now image) c ⌝ }
     ensures { λ r. ⌜ r ≡ directoryNumber files next (restOf (now (image .entry)) c) ⌝ }
 {
-    let t = directory::count_entries(image, c, next);
+    let t = search::count_entries(image, c, next);
     if t.bad {
         return 6;
     }
@@ -103,7 +103,7 @@ fn directory_number(image: &[u8], c: Cursor, files: u16, next: u32) -> u8
     if !t.numbered {
         return 7;
     }
-    if !directory::all_differ(image, c) {
+    if !search::all_differ(image, c) {
         return 7;
     }
     0

@@ -3,9 +3,3 @@ pub mod Same
 pub mod Parts
 pub mod Each
 pub mod Whole
-pub mod Stored
-pub mod Located
-pub mod Blocks
-pub mod Rooming
-pub mod Elsewhere
-pub mod Inserting

@@ -12,7 +12,7 @@ use Rattle.model.specs.declared.DirectoryEntry.{DirectoryEntry}
 use Rattle.model.specs.declared.ForkFacts.{ForkFacts}
 use Rattle.model.specs.declared.Fork.{Fork}
 use Rattle.model.specs.declared.Fork.the-variants.{Data, Resource}
-use Rattle.model.proofs.Stores.{drop-take-add, be16-drop, be32-drop}
+use Rattle.laws.proofs.Stores.{drop-take-add, be16-drop, be32-drop}
 use Rattle.directory.specs.declared.EntryAt.{EntryAt}
 use Rattle.directory.specs.Cursor.{bytesAt, Stands}
 

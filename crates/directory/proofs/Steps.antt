@@ -15,7 +15,7 @@ use Rattle.model.specs.Bytes.{byte, part}
 use Rattle.model.specs.Directory.{padded, entrySize, inUse, endsAt, nextPlace, readAt, entries, cutBlocks, listing}
 use Rattle.model.specs.Check.{goodEntry}
 use Rattle.model.proofs.Lists.{flat-append}
-use Rattle.model.proofs.Block.{size-low, step-end, step-more, good-take}
+use Rattle.laws.proofs.Block.{size-low, step-end, step-more, good-take}
 use Rattle.directory.specs.declared.Cursor.{Cursor}
 use Rattle.directory.specs.declared.Step.{Step}
 use Rattle.directory.specs.declared.Step.the-variants.{Entry, End, Bad}

@@ -4,12 +4,10 @@ use mathlib.Core.Path.{_≡_}
 use mathlib.Core.Bool.{true, false}
 use mathlib.Core.List.{List, [], _∷_, _++_}
 use lib.ListN.{length, drop}
-use lib.Seq.{paste}
 use Rattle.model.specs.Lists.{flat}
 use Rattle.model.specs.Bytes.{byte, part}
 use Rattle.model.specs.Directory.{padded, readAt, entries, cutBlocks, listing}
 use Rattle.model.specs.Check.{goodEntry, fires6}
-use Rattle.model.specs.Calls.{filled}
 use Rattle.directory.specs.declared.Cursor.{Cursor}
 use Rattle.directory.specs.declared.EntryAt.{EntryAt}
 use Rattle.directory.specs.declared.Step.{Step}
@@ -96,12 +94,3 @@ abbrev pub Stepped : List ℕ → Cursor → Step → Type 0
 Stepped image c (Entry e d) = Moves image c e d
 Stepped image c End = restOf image c ≡ []
 Stepped image c Bad = Fails image c
-
--- the directory block at byte base is within the image and passes check 6
-pub record Block (image : List ℕ) (base : ℕ) : Type 0 where
-  pub within : base + 512 ≤ length image
-  pub good : fires6 (entries (part base 512 image)) ≡ false
-
--- the image without the entry: in the block at byte base the later entries moved up, with zeros behind them
-abbrev pub Removes : List ℕ → ℕ → EntryAt → List ℕ → Type 0
-Removes image base e after = (l : Lies image base 1 e) → after ≡ paste image base (filled (l .before ++ l .behind)) 512

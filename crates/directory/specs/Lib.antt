@@ -1,4 +1,1 @@
 pub mod Cursor
-pub mod Checks
-pub mod Search
-pub mod Rooms

@@ -13,16 +13,17 @@ use Rattle.model.specs.Facts.{dirStart, dirLength, nextNumber}
 use Rattle.model.specs.Directory.{padded, entries, readEnd, cutBlocks, directoryBlocks}
 use Rattle.model.specs.Calls.{hasRoom, newEntry, filled, withFiles, withNext, created}
 use Rattle.model.proofs.Lists.{any-append}
-use Rattle.model.proofs.Entry.{new-length, new-sound}
-use Rattle.model.proofs.Blocks.{Cleans}
+use Rattle.laws.proofs.Entry.{new-length, new-sound}
+use Rattle.laws.proofs.Blocks.{Cleans}
 use Rattle.history.proofs.BytesKept.{files-few}
-use Rattle.model.proofs.DirectorySteps.{clean-now}
+use Rattle.laws.proofs.DirectorySteps.{clean-now}
 use Rattle.history.proofs.Joined.{readable-of}
-use Rattle.directory.specs.Cursor.{Begins, Block}
-use Rattle.directory.specs.Rooms.{HasRoom}
+use Rattle.directory.specs.Cursor.{Begins}
+use Rattle.entries.specs.Blocks.{Block}
+use Rattle.entries.specs.Rooms.{HasRoom}
 use Rattle.directory.proofs.Steps.{blocks-rest}
-use Rattle.directory.proofs.Located.{cut-at}
-use Rattle.directory.proofs.Rooming.{block-of, room-placed}
+use Rattle.entries.proofs.Located.{cut-at}
+use Rattle.entries.proofs.Rooming.{block-of, room-placed}
 use Rattle.model.specs.declared.VolumeFacts.{VolumeFacts}
 use Rattle.directory.specs.declared.Cursor.{Cursor}
 use Rattle.files.specs.Adding.{Adds, withFile}

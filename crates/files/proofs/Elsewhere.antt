@@ -16,17 +16,18 @@ use Rattle.model.specs.Calls.{removed, rewritten, withFork, withDirectory}
 use Rattle.model.specs.declared.VolumeFacts.{VolumeFacts}
 use Rattle.model.specs.declared.Fork.{Fork}
 use Rattle.model.proofs.Check.{accepted-passes}
-use Rattle.model.proofs.Blocks.{Cleans}
-use Rattle.model.proofs.Kept.{named-first}
-use Rattle.model.proofs.MapSteps.{forkWith}
-use Rattle.model.proofs.DirectorySteps as steps
-use Rattle.model.proofs.DirectorySteps.{Based}
-use Rattle.directory.specs.Cursor.{bytesAt, Stands, Lies, Block, Removes}
+use Rattle.laws.proofs.Blocks.{Cleans}
+use Rattle.laws.proofs.Kept.{named-first}
+use Rattle.laws.proofs.MapSteps.{forkWith}
+use Rattle.laws.proofs.DirectorySteps as steps
+use Rattle.laws.proofs.DirectorySteps.{Based}
+use Rattle.directory.specs.Cursor.{bytesAt, Stands, Lies}
+use Rattle.entries.specs.Blocks.{Block, Removes}
 use Rattle.directory.specs.declared.EntryAt.{EntryAt}
-use Rattle.directory.proofs.Blocks.{size-here}
-use Rattle.directory.proofs.Stored.{fields}
-use Rattle.directory.proofs.Located.{entry-within, fork-stored, own-block, own-start, lies-block, entry-removed}
-use Rattle.directory.proofs.Elsewhere.{bytes-elsewhere, lies-elsewhere, stands-elsewhere}
+use Rattle.entries.proofs.Blocks.{size-here}
+use Rattle.entries.proofs.Stored.{fields}
+use Rattle.entries.proofs.Located.{entry-within, fork-stored, own-block, own-start, lies-block, entry-removed}
+use Rattle.entries.proofs.Elsewhere.{bytes-elsewhere, lies-elsewhere, stands-elsewhere}
 use Rattle.files.specs.Lookup.{Found, Held}
 
 module _ {image name : List ℕ} {place : ℕ} {e : EntryAt} (acc : Accepted image) (h : Found image name place e) (base : List ℕ) (b : Based image base) where

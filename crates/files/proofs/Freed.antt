@@ -12,17 +12,18 @@ use Rattle.model.specs.Directory.{directory, directoryBlocks, forkOf, forksIn, 
 use Rattle.model.specs.Check.{Accepted}
 use Rattle.model.specs.Calls.{removed, withDirectory, withFiles, withFree, deleted}
 use Rattle.model.proofs.Check.{fork-block}
-use Rattle.model.proofs.Sound.{held, Sound}
-use Rattle.model.proofs.Chains.{length-forkBlocks}
-use Rattle.model.proofs.Joins.{InMap, part-once, putFree-other}
-use Rattle.model.proofs.MapChecks.{lists, parted}
-use Rattle.model.proofs.MapSteps.{bothBlocks, delete-frame}
-use Rattle.model.proofs.DirectorySteps.{Based}
+use Rattle.laws.proofs.Sound.{held, Sound}
+use Rattle.laws.proofs.Chains.{length-forkBlocks}
+use Rattle.laws.proofs.Joins.{InMap, part-once, putFree-other}
+use Rattle.laws.proofs.MapChecks.{lists, parted}
+use Rattle.laws.proofs.MapSteps.{bothBlocks, delete-frame}
+use Rattle.laws.proofs.DirectorySteps.{Based}
 use Rattle.history.proofs.Reading.{area}
 use Rattle.history.proofs.Joined.{based}
 use Rattle.history.proofs.Rewrites.{it-alone, theEntry, passes-there}
 use Rattle.blockmap.proofs.Linking.{chain-keep}
-use Rattle.directory.specs.Cursor.{bytesAt, Stands, Lies, Block, Removes}
+use Rattle.directory.specs.Cursor.{bytesAt, Stands, Lies}
+use Rattle.entries.specs.Blocks.{Block, Removes}
 use Rattle.model.specs.declared.VolumeFacts.{VolumeFacts}
 use Rattle.model.specs.declared.Fork.the-variants.{Data, Resource}
 use Rattle.model.specs.declared.ForkFacts.{ForkFacts}

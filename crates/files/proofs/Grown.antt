@@ -16,13 +16,13 @@ use Rattle.model.specs.Check.{Accepted}
 use Rattle.model.specs.Calls.{grown, needed, fewest}
 use Rattle.model.specs.Calls.{putContent, withFork, rewritten, withDirectory, withFree, written}
 use Rattle.model.proofs.Map.{length-chain}
-use Rattle.model.proofs.Sound.{Each, each-right, Linked}
-use Rattle.model.proofs.Chains.{linked-runs, linked-blocks}
-use Rattle.model.proofs.Joins.{write-sound, lowest-free, length-putChain}
-use Rattle.model.proofs.Content.{fewest-holds}
-use Rattle.model.proofs.MapChecks.{lists, parted}
-use Rattle.model.proofs.MapSteps.{forkWith, blocksAfter, afterWrite, new-count, write-frame}
-use Rattle.model.proofs.DirectorySteps.{Based}
+use Rattle.laws.proofs.Sound.{Each, each-right, Linked}
+use Rattle.laws.proofs.Chains.{linked-runs, linked-blocks}
+use Rattle.laws.proofs.Joins.{write-sound, lowest-free, length-putChain}
+use Rattle.laws.proofs.Content.{fewest-holds}
+use Rattle.laws.proofs.MapChecks.{lists, parted}
+use Rattle.laws.proofs.MapSteps.{forkWith, blocksAfter, afterWrite, new-count, write-frame}
+use Rattle.laws.proofs.DirectorySteps.{Based}
 use Rattle.history.proofs.Reading.{area}
 use Rattle.history.proofs.Joined.{based}
 use Rattle.history.proofs.Rewrites.{theEntry, the-entry, around, beyond, passes-there}
@@ -32,7 +32,7 @@ use Rattle.model.specs.declared.ForkFacts.{ForkFacts}
 use Rattle.blockmap.proofs.Chains.{chain-most}
 use Rattle.directory.specs.Cursor.{bytesAt, Stands}
 use Rattle.directory.specs.declared.EntryAt.{EntryAt}
-use Rattle.directory.proofs.Stored.{fields}
+use Rattle.entries.proofs.Stored.{fields}
 use Rattle.forks.specs.Content.{Fillable}
 use Rattle.forks.specs.Growth.{newBlocks}
 use Rattle.files.specs.Lookup.{Held}

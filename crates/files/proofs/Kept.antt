@@ -15,14 +15,14 @@ use Rattle.model.specs.Directory.{directory, forkPlace, forkOf, blockCount, for
 use Rattle.model.specs.Check.{Accepted}
 use Rattle.model.specs.Calls.{fewest, withFree, shortened}
 use Rattle.model.proofs.Map.{length-chain}
-use Rattle.model.proofs.Content.{fewest-least}
-use Rattle.model.proofs.MapSteps.{forkWith, afterCut, cut-frame}
-use Rattle.model.proofs.DirectorySteps.{Based}
+use Rattle.laws.proofs.Content.{fewest-least}
+use Rattle.laws.proofs.MapSteps.{forkWith, afterCut, cut-frame}
+use Rattle.laws.proofs.DirectorySteps.{Based}
 use Rattle.history.proofs.Reading.{area}
 use Rattle.history.proofs.Joined.{based}
 use Rattle.history.proofs.Rewrites.{theEntry, around, beyond, passes-there}
 use Rattle.directory.specs.Cursor.{Stands}
-use Rattle.directory.proofs.Stored.{fields}
+use Rattle.entries.proofs.Stored.{fields}
 use Rattle.model.specs.declared.VolumeFacts.{VolumeFacts}
 use Rattle.model.specs.declared.Fork.{Fork}
 use Rattle.model.specs.declared.ForkFacts.{ForkFacts}

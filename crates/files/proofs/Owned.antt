@@ -10,7 +10,7 @@ use Rattle.model.specs.Directory.{directory, named, forkOf, blockCount}
 use Rattle.model.specs.Calls.{entryNamed}
 use Rattle.model.proofs.Map.{chain-runs}
 use Rattle.model.proofs.Check.{fork-good}
-use Rattle.model.proofs.Chains.{length-forkBlocks, good}
+use Rattle.laws.proofs.Chains.{length-forkBlocks, good}
 use Rattle.history.proofs.Answers.{first-found}
 use Rattle.history.proofs.Rewrites.{theEntry, the-entry}
 use Rattle.history.proofs.BytesKept.{named-counts}

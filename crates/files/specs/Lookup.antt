@@ -9,7 +9,7 @@ use Rattle.model.specs.Directory.{directory, forkOf, named}
 use Rattle.model.specs.Check.{orElse, Accepted}
 use Rattle.model.specs.Calls.{badName}
 use Rattle.directory.specs.Cursor.{bytesAt, Lies}
-use Rattle.directory.specs.Search as search
+use Rattle.search.specs.Search as search
 use Rattle.directory.specs.declared.EntryAt.{EntryAt}
 use Rattle.model.specs.declared.VolumeFacts.{VolumeFacts}
 use Rattle.model.specs.declared.Fork.{Fork}

@@ -33,7 +33,7 @@ pub fn add_file(
 {
     whole(finder);
     let number = f.next_number;
-    directory::insert_entry(image, base, end, number, name, finder, created, changed);
+    entries::insert_entry(image, base, end, number, name, finder, created, changed);
     put_next(image, number + 1);
     put_files(image, f.files + 1);
 }

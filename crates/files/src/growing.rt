@@ -42,6 +42,6 @@ pub fn grow_fork(
         logical: larger(g.logical as usize, offset + bytes.len()) as u32,
         physical: blocks as u32 * a,
     };
-    directory::store_fork(image, e, fork, after, changed);
+    entries::store_fork(image, e, fork, after, changed);
     put_free(image, f.free_blocks - need);
 }

@@ -5,8 +5,8 @@ ghost use Rattle.directory.specs.Cursor.{Begins};
 ghost use Rattle.files.specs.Lookup.{Readable, Names};
 use crate::Named;
 use directory::Cursor;
-use directory::Found;
 use model::VolumeFacts;
+use search::Found;
 
 // At the first entry of the volume's directory.
 pub fn first_entry(f: VolumeFacts) -> Cursor
@@ -28,7 +28,7 @@ pub fn lookup(image: &[u8], f: VolumeFacts, name: &[u8]) -> Named
     if 255 < name.len() {
         return Named::Refused(12);
     }
-    match directory::locate(image, first_entry(f), name) {
+    match search::locate(image, first_entry(f), name) {
         Found::At(place, e) => Named::At(place, e),
         Found::Nothing => Named::Refused(13),
     }

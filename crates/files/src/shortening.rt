@@ -38,6 +38,6 @@ pub fn shorten_fork(
         logical: size,
         physical: keep as u32 * a,
     };
-    directory::store_fork(image, e, fork, after, changed);
+    entries::store_fork(image, e, fork, after, changed);
     put_free(image, f.free_blocks + (has - keep));
 }

@@ -21,7 +21,7 @@ pub fn take_file(image: &mut [u8], f: VolumeFacts, e: EntryAt)
     blockmap::free_chain(image, n, data.start, in_data);
     blockmap::free_chain(image, n, resource.start, in_resource);
     let base = e.start - e.start % 512;
-    directory::remove_entry(image, base, e);
+    entries::remove_entry(image, base, e);
     put_files(image, f.files - 1);
     put_free(image, f.free_blocks + in_data + in_resource);
 }

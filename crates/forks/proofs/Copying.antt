@@ -18,8 +18,8 @@ use Rattle.model.specs.declared.ForkFacts.{ForkFacts}
 use Rattle.model.specs.declared.Fork.{Fork}
 use Rattle.model.proofs.Map.{block-low, block-high, runs-block, runs-rest, chain-runs}
 use Rattle.model.proofs.Check.{good-fork, fork-good, fork-block}
-use Rattle.model.proofs.Chains.{good}
-use Rattle.model.proofs.Content.{Inside, length-bytes, part-take}
+use Rattle.laws.proofs.Chains.{good}
+use Rattle.laws.proofs.Content.{Inside, length-bytes, part-take}
 use Rattle.history.proofs.Answers.{sound-fork}
 use Rattle.history.proofs.Reading.{area}
 use Rattle.blockmap.specs.Places.{HasPlace, IsPlace}

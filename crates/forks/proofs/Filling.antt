@@ -14,10 +14,10 @@ use Rattle.model.specs.Facts.{blockByte}
 use Rattle.model.specs.Map.{mapEntry, runs, chainBlocks}
 use Rattle.model.specs.Calls.{bytesOf, putBlocks, putContent}
 use Rattle.model.proofs.Times.{times-head, times-tail}
-use Rattle.model.proofs.Joins.{other}
+use Rattle.laws.proofs.Joins.{other}
 use Rattle.model.proofs.Map.{runs-block, runs-rest, block-low, block-high, chain-low, chain-high, chain-once}
-use Rattle.model.proofs.Content.{Inside, bytes-same, part-clear, blocks-apart}
-use Rattle.model.proofs.Alike.{entries-frame}
+use Rattle.laws.proofs.Content.{Inside, bytes-same, part-clear, blocks-apart}
+use Rattle.laws.proofs.Alike.{entries-frame}
 use Rattle.blockmap.specs.Places.{HasPlace, IsPlace}
 use Rattle.blockmap.proofs.Chains.{chain-most}
 use Rattle.forks.specs.Content.{Fillable}

@@ -12,7 +12,7 @@ use Rattle.model.specs.Check.{orElse}
 use Rattle.model.specs.Calls.{fewest, grown, needed}
 use Rattle.model.specs.declared.VolumeFacts.{VolumeFacts}
 use Rattle.model.specs.declared.ForkFacts.{ForkFacts}
-use Rattle.model.proofs.Content.{fewest-holds, fewest-least}
+use Rattle.laws.proofs.Content.{fewest-holds, fewest-least}
 use Rattle.forks.specs.declared.NewBlocks.{NewBlocks}
 use Rattle.forks.specs.Growth.{newBlocks, Grows}
 

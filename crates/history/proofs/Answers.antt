@@ -31,7 +31,7 @@ use Rattle.model.specs.declared.Fork.the-variants.{Data, Resource}
 use Rattle.model.proofs.Lists.{and-true, or-false, reordered-any, reordered-length}
 use Rattle.model.proofs.Names.{eqb-comm, same-name-comm, same-name-trans}
 use Rattle.model.proofs.Check.{else-zero, accepted-passes, verdict-accepted, accepted-verdict}
-use Rattle.model.proofs.Reorder.{first-same, first-map, first-at, any-map, distinct-map}
+use Rattle.laws.proofs.Reorder.{first-same, first-map, first-at, any-map, distinct-map}
 
 -- ---- the first that passes
 

@@ -22,15 +22,15 @@ use Rattle.model.specs.declared.Fork.{Fork}
 use Rattle.model.specs.declared.Fork.the-variants.{Data, Resource}
 use Rattle.model.proofs.Times.{times-append}
 use Rattle.model.proofs.Check.{fork-good, fork-block}
-use Rattle.model.proofs.Sound.{Each, each-append}
-use Rattle.model.proofs.Chains.{length-forkBlocks, good}
-use Rattle.model.proofs.Free.{times-take, free-in}
-use Rattle.model.proofs.Joins.{InMap, in-map-head}
-use Rattle.model.proofs.Content.{fewest-holds}
-use Rattle.model.proofs.MapChecks.{blockCounts, all-blocks}
-use Rattle.model.proofs.Octets.{Octets, octets, bytes, octets-take, octets-drop, octets-cons, octets-append, octets-zeros, octets-u16, octets-u32, bytes-be32}
-use Rattle.model.proofs.Octets.{bytes-putChain, bytes-putFree, bytes-putContent, bytes-paste, bytes-sets, octets-sets}
-use Rattle.model.proofs.Blocks.{cut-count}
+use Rattle.laws.proofs.Sound.{Each, each-append}
+use Rattle.laws.proofs.Chains.{length-forkBlocks, good}
+use Rattle.laws.proofs.Free.{times-take, free-in}
+use Rattle.laws.proofs.Joins.{InMap, in-map-head}
+use Rattle.laws.proofs.Content.{fewest-holds}
+use Rattle.laws.proofs.MapChecks.{blockCounts, all-blocks}
+use Rattle.laws.proofs.Octets.{Octets, octets, bytes, octets-take, octets-drop, octets-cons, octets-append, octets-zeros, octets-u16, octets-u32, bytes-be32}
+use Rattle.laws.proofs.Octets.{bytes-putChain, bytes-putFree, bytes-putContent, bytes-paste, bytes-sets, octets-sets}
+use Rattle.laws.proofs.Blocks.{cut-count}
 use Rattle.history.proofs.Answers.{MayCreate, MayChange, MayWrite, MayCut, first-found, sound-fork}
 use Rattle.history.proofs.Reading.{map-passes}
 

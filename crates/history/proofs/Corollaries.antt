@@ -31,10 +31,10 @@ use Rattle.history.specs.EveryList.{made, AllFit, EveryList}
 use Rattle.model.specs.declared.Fork.{Fork}
 use Rattle.model.specs.declared.Fork.the-variants.{Data, Resource}
 use Rattle.model.proofs.Lists.{back}
-use Rattle.model.proofs.Reorder.{any-map}
+use Rattle.laws.proofs.Reorder.{any-map}
 use Rattle.model.proofs.Check.{else-zero}
-use Rattle.model.proofs.Content.{drop-take}
-use Rattle.model.proofs.MapChecks.{all-blocks}
+use Rattle.laws.proofs.Content.{drop-take}
+use Rattle.laws.proofs.MapChecks.{all-blocks}
 use Rattle.history.proofs.Answers.{length-overwritten, rise-needed, same-free, known-same}
 use Rattle.history.proofs.Reading.{map-passes, lengths, blocks-of}
 use Rattle.history.proofs.Run.{every-run}

@@ -17,14 +17,14 @@ use Rattle.model.specs.declared.VolumeFacts.{VolumeFacts}
 use Rattle.model.specs.declared.ForkFacts.{ForkFacts}
 use Rattle.model.specs.declared.Fork.{Fork}
 use Rattle.model.specs.declared.Fork.the-variants.{Data, Resource}
-use Rattle.model.proofs.Reorder.{after-create}
-use Rattle.model.proofs.MapChecks.{MapPasses}
-use Rattle.model.proofs.Alike.{Alike, alike-trans}
-use Rattle.model.proofs.MapSteps.{blankFork, Framed, Changed, create-changed, blank-bytes, blank-count}
-use Rattle.model.proofs.Entry.{new-flags, new-number, new-name, new-finder, new-created, new-changed, new-fork, new-sound, new-length}
-use Rattle.model.proofs.Blocks.{clean-whole, placed-stays, Inserted, inserted-reordered}
-use Rattle.model.proofs.Image.{blocks-count}
-use Rattle.model.proofs.DirectorySteps.{Stepped, clean-now, created-inserted, created-step}
+use Rattle.laws.proofs.Reorder.{after-create}
+use Rattle.laws.proofs.MapChecks.{MapPasses}
+use Rattle.laws.proofs.Alike.{Alike, alike-trans}
+use Rattle.laws.proofs.MapSteps.{blankFork, Framed, Changed, create-changed, blank-bytes, blank-count}
+use Rattle.laws.proofs.Entry.{new-flags, new-number, new-name, new-finder, new-created, new-changed, new-fork, new-sound, new-length}
+use Rattle.laws.proofs.Blocks.{clean-whole, placed-stays, Inserted, inserted-reordered}
+use Rattle.laws.proofs.Image.{blocks-count}
+use Rattle.laws.proofs.DirectorySteps.{Stepped, clean-now, created-inserted, created-step}
 use Rattle.history.proofs.Answers.{MayCreate, same-next}
 use Rattle.history.proofs.Reading.{area, map-passes, forks-append, accepted-from, SameVolume, agrees-from, each-same, files-same}
 use Rattle.history.proofs.Joined.{readable-of, alike-directory, alike-files, alike-next, only-named}

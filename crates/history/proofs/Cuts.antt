@@ -17,10 +17,10 @@ use Rattle.model.specs.declared.VolumeFacts.{VolumeFacts}
 use Rattle.model.specs.declared.ForkFacts.{ForkFacts}
 use Rattle.model.specs.declared.Fork.{Fork}
 use Rattle.model.proofs.Times.{times-append}
-use Rattle.model.proofs.MapChecks.{MapPasses}
-use Rattle.model.proofs.Alike.{Alike}
-use Rattle.model.proofs.MapSteps.{forkWith, keptBlocks, freedBlocks, afterCut, Framed, Changed, cut-frame, cut-count, cut-changed, cut-own}
-use Rattle.model.proofs.DirectorySteps.{Stepped, shortened-step}
+use Rattle.laws.proofs.MapChecks.{MapPasses}
+use Rattle.laws.proofs.Alike.{Alike}
+use Rattle.laws.proofs.MapSteps.{forkWith, keptBlocks, freedBlocks, afterCut, Framed, Changed, cut-frame, cut-count, cut-changed, cut-own}
+use Rattle.laws.proofs.DirectorySteps.{Stepped, shortened-step}
 use Rattle.history.proofs.Answers.{MayCut, same-A}
 use Rattle.history.proofs.Reading.{area}
 use Rattle.history.proofs.Joined.{readable-of, based, only-named}

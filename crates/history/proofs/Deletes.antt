@@ -16,15 +16,15 @@ use Rattle.history.specs.History.{File, History, heldIn, fileIn, filesIn
 use Rattle.model.specs.declared.VolumeFacts.{VolumeFacts}
 use Rattle.model.specs.declared.ForkFacts.{ForkFacts}
 use Rattle.model.specs.declared.Fork.the-variants.{Data, Resource}
-use Rattle.model.proofs.Reorder.{Alone, after-delete}
+use Rattle.laws.proofs.Reorder.{Alone, after-delete}
 use Rattle.model.proofs.Times.{times-append}
-use Rattle.model.proofs.MapChecks.{MapPasses}
-use Rattle.model.proofs.Alike.{Alike, alike-trans}
-use Rattle.model.proofs.MapSteps.{bothBlocks, Framed, Changed, delete-frame, delete-changed}
-use Rattle.model.proofs.Blocks.{clean-whole, removed-stays}
-use Rattle.model.proofs.Kept.{named-keep}
-use Rattle.model.proofs.Image.{blocks-count}
-use Rattle.model.proofs.DirectorySteps.{Stepped, clean-now, deleted-step}
+use Rattle.laws.proofs.MapChecks.{MapPasses}
+use Rattle.laws.proofs.Alike.{Alike, alike-trans}
+use Rattle.laws.proofs.MapSteps.{bothBlocks, Framed, Changed, delete-frame, delete-changed}
+use Rattle.laws.proofs.Blocks.{clean-whole, removed-stays}
+use Rattle.laws.proofs.Kept.{named-keep}
+use Rattle.laws.proofs.Image.{blocks-count}
+use Rattle.laws.proofs.DirectorySteps.{Stepped, clean-now, deleted-step}
 use Rattle.history.proofs.Answers.{MayChange}
 use Rattle.history.proofs.Reading.{area, forks-append, accepted-from, SameVolume, agrees-from, each-same, files-same}
 use Rattle.history.proofs.Joined.{readable-of, based, alike-directory, alike-files, alike-free, only-named}

@@ -17,11 +17,11 @@ use Rattle.history.specs.History.{File, called, onCalled, fileIn, namedB
 use Rattle.model.specs.declared.VolumeFacts.{VolumeFacts}
 use Rattle.model.proofs.Lists.{or-false}
 use Rattle.model.proofs.Check.{accepted-passes}
-use Rattle.model.proofs.Content.{same-byte}
-use Rattle.model.proofs.Alike.{Alike, alike-sets, alike-paste}
-use Rattle.model.proofs.MapSteps.{Framed}
-use Rattle.model.proofs.Blocks.{Whole, whole-length}
-use Rattle.model.proofs.DirectorySteps.{Readable, readable, Based, based-bytes, Stepped}
+use Rattle.laws.proofs.Content.{same-byte}
+use Rattle.laws.proofs.Alike.{Alike, alike-sets, alike-paste}
+use Rattle.laws.proofs.MapSteps.{Framed}
+use Rattle.laws.proofs.Blocks.{Whole, whole-length}
+use Rattle.laws.proofs.DirectorySteps.{Readable, readable, Based, based-bytes, Stepped}
 
 pub readable-of : (image : List ℕ) → Accepted image → Readable image
 readable-of image acc = readable image (accepted-passes image acc)

@@ -20,9 +20,9 @@ use Rattle.model.specs.declared.Fork.{Fork}
 use Rattle.model.specs.declared.Fork.the-variants.{Data, Resource}
 use Rattle.model.proofs.Lists.{same-list, reordered-length}
 use Rattle.model.proofs.Check.{Passes, passes-accepted, accepted-passes, facts-pass1, facts-pass2, facts-pass3, facts-pass4}
-use Rattle.model.proofs.Sound.{Each}
-use Rattle.model.proofs.MapChecks.{MapPasses, blockCounts, all-blocks, sound-passes}
-use Rattle.model.proofs.MapSteps.{Area, sound-area, fork-lengths}
+use Rattle.laws.proofs.Sound.{Each}
+use Rattle.laws.proofs.MapChecks.{MapPasses, blockCounts, all-blocks, sound-passes}
+use Rattle.laws.proofs.MapSteps.{Area, sound-area, fork-lengths}
 use Rattle.history.proofs.Answers.{Lengths}
 
 -- ---- forks

@@ -19,14 +19,14 @@ use Rattle.model.specs.declared.ForkFacts.{ForkFacts}
 use Rattle.model.specs.declared.Fork.{Fork}
 use Rattle.model.specs.declared.Fork.the-variants.{Data, Resource}
 use Rattle.model.proofs.Lists.{and-true, every-append}
-use Rattle.model.proofs.Reorder.{Alone, after-change}
-use Rattle.model.proofs.Sound.{Each, each-left, each-right}
-use Rattle.model.proofs.MapChecks.{MapPasses}
-use Rattle.model.proofs.MapSteps.{forkWith, Changed}
-use Rattle.model.proofs.Block.{good-long}
-use Rattle.model.proofs.Entry.{fork-flags, fork-number, fork-finder, fork-created, fork-name, fork-named, fork-changed, fork-fields, other-resource, other-data}
-use Rattle.model.proofs.Kept.{named-first, named-map}
-use Rattle.model.proofs.DirectorySteps.{Stepped, named-now}
+use Rattle.laws.proofs.Reorder.{Alone, after-change}
+use Rattle.laws.proofs.Sound.{Each, each-left, each-right}
+use Rattle.laws.proofs.MapChecks.{MapPasses}
+use Rattle.laws.proofs.MapSteps.{forkWith, Changed}
+use Rattle.laws.proofs.Block.{good-long}
+use Rattle.laws.proofs.Entry.{fork-flags, fork-number, fork-finder, fork-created, fork-name, fork-named, fork-changed, fork-fields, other-resource, other-data}
+use Rattle.laws.proofs.Kept.{named-first, named-map}
+use Rattle.laws.proofs.DirectorySteps.{Stepped, named-now}
 use Rattle.history.proofs.Reading.{forks-append, map-passes, accepted-from, SameVolume, agrees-from, each-same, files-same}
 use Rattle.history.proofs.Joined.{readable-of, uncalled}
 

@@ -18,13 +18,13 @@ use Rattle.model.specs.declared.VolumeFacts.{VolumeFacts}
 use Rattle.model.specs.declared.ForkFacts.{ForkFacts}
 use Rattle.model.specs.declared.Fork.{Fork}
 use Rattle.model.proofs.Times.{times-append}
-use Rattle.model.proofs.MapChecks.{MapPasses}
-use Rattle.model.proofs.Alike.{Alike, alike-trans}
-use Rattle.model.proofs.MapSteps.{forkWith, sizeAfter, newCount, blocksAfter, afterWrite, new-count, Framed, Changed, write-frame, write-count, write-changed, write-blocks, write-own, length-forkBytes}
-use Rattle.model.proofs.Entry.{fork-keeps}
-use Rattle.model.proofs.Blocks.{Cleans, clean-whole, Stays, rewritten-stays}
-use Rattle.model.proofs.Image.{blocks-count}
-use Rattle.model.proofs.DirectorySteps.{Based, Stepped, clean-now, written-step}
+use Rattle.laws.proofs.MapChecks.{MapPasses}
+use Rattle.laws.proofs.Alike.{Alike, alike-trans}
+use Rattle.laws.proofs.MapSteps.{forkWith, sizeAfter, newCount, blocksAfter, afterWrite, new-count, Framed, Changed, write-frame, write-count, write-changed, write-blocks, write-own, length-forkBytes}
+use Rattle.laws.proofs.Entry.{fork-keeps}
+use Rattle.laws.proofs.Blocks.{Cleans, clean-whole, Stays, rewritten-stays}
+use Rattle.laws.proofs.Image.{blocks-count}
+use Rattle.laws.proofs.DirectorySteps.{Based, Stepped, clean-now, written-step}
 use Rattle.history.proofs.Answers.{MayWrite, same-A, length-overwritten}
 use Rattle.history.proofs.Reading.{area}
 use Rattle.history.proofs.Joined.{readable-of, based, alike-directory, alike-free, only-named}

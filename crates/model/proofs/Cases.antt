@@ -11,7 +11,7 @@ use Rattle.model.specs.Map.{joined, firstByte, secondByte, mapEntry, set
 use Rattle.model.specs.Directory.{padded, entrySize, inUse, endsAt, nextPlace, readAt, entries, readEnd, cutBlocks, directoryBlocks, listing, directory, numberIn, nameIn, finderIn, forkIn, forkOf, wide, entryIn, noEntry, flagsLock, forksIn, blockCount, forkBlocks, ownedBlocks, fold, folded, sameName, named}
 use Rattle.model.specs.Check.{fires1, fires2, fires3, fires4, fires5, goodEntry, fires6, goodNumber, fires7, emptyFork, fullFork, goodFork, sharesNone, fires8, fires9, fires10, from9, from8, from7, from6, from5, from4, from3, from2, verdict}
 use Rattle.model.specs.Calls.{nameOf, forkGiven, fewest, grown, needed, badName, refuses, entryNamed, hasRoom, knownIn, refusal, bytesOf, forkBytes, putBlocks, putContent, readCount, copied, filled, newEntry, placed, removedIn, removed, onNamed, rewrittenIn, rewritten, withFork, withDirectory, withFiles, withNext, withFree, created, written, shortened, deleted, change, only, tellsFacts, tellsEntry, tellsBlock, tellsBytes, reply, lent, answer, after}
-use Rattle.model.specs.Cases.{Plan, info, disk, entryBytes, weekEntry, ratesEntry, hallMap, hallPlan, hall, withBytes, sample, withWeek1, freeCount3, ring, info800, Row, Right, AllRight, end, _&_, weekFacts, pCases, PCases, hallFacts, ratesFacts, newsEntry, paddedDisk, staleDisk, deadDisk, fullWeek, roomyDisk, longName, longDisk, twoBlocks, tellsRead, longFacts, badVolumes, readings, changings, FurtherCases}
+use Rattle.model.specs.Cases.{Plan, info, disk, entryBytes, weekEntry, ratesEntry, hallMap, hallPlan, hall, withBytes, sample, withWeek1, freeCount3, ring, info800, Row, Right, AllRight, end, _&_, weekFacts, pCases, PCases, hallFacts, ratesFacts, newsEntry, paddedDisk, staleDisk, deadDisk, fullWeek, roomyDisk, longName, longDisk, twoBlocks, tellsRead, longFacts, telling, FurtherCases}
 use Rattle.model.specs.Cases.Row.{does, passes3, gives3}
 use Rattle.model.specs.Calls.Call.{check, entry, find, block, read, create, write, cut, delete}
 
@@ -41,25 +41,13 @@ unfolding Right verdict from2 from3 fires1 fires2 fires3 info800 factsIn be32 be
 gives-392 image l e = rw (facts-of image (info800 392) e, l)
 
 -- a row that computes: its answer and its image, or its two numbers
-abbrev row : {A B : Type 0} {x : A} {y : B} → (x ≡ x) × (y ≡ y)
+abbrev pub row : {A B : Type 0} {x : A} {y : B} → (x ≡ x) × (y ≡ y)
 row = (refl, refl)
 
 pub cases : PCases
 unfolding everything pCases PCases
 cases = row & row & row & row & row & row & row & row & row & row & row & row & row & row & passes-391 & gives-392 & end
 
-bad-volumes : AllRight badVolumes
-unfolding everything badVolumes
-bad-volumes = row & row & row & row & row & row & row & row & row & row & row & row & row & row & row & row & row & row & row & row & row & row & row & row & row & row & row & row & row & row & end
-
-all-readings : AllRight readings
-unfolding everything readings
-all-readings = row & row & row & row & row & row & row & row & row & row & row & row & row & row & row & row & row & end
-
-all-changings : AllRight changings
-unfolding everything changings
-all-changings = row & row & row & row & row & row & row & row & row & row & row & row & row & row & row & row & row & row & row & row & end
-
 pub further : FurtherCases
-unfolding FurtherCases
-further = (bad-volumes, all-readings, all-changings)
+unfolding everything telling FurtherCases
+further = row & row & row & row & row & row & row & row & end

@@ -359,7 +359,8 @@ lent (delete name) = []
 unfoldable pub answer : Call → List ℕ → Answer
 answer call image =
     let r = reply call image in
-    cond (eqb (refusal call image) 0) r (only (refusal call image) (lent call))
+    let n = refusal call image in
+    cond (eqb n 0) r (only n (lent call))
 
 unfoldable pub after : Call → List ℕ → List ℕ
 after call image = let changed = change call image in cond (eqb (refusal call image) 0) changed image

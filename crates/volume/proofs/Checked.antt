@@ -13,7 +13,7 @@ use Rattle.model.specs.Check.{fires1, from2, verdict}
 use Rattle.model.specs.Calls.{Answer, refuses, refusal, only, tellsFacts, reply, lent, change, answer, Fits, Does}
 use Rattle.model.specs.Calls.Call.{check}
 use Rattle.model.specs.declared.VolumeFacts.{VolumeFacts}
-use Rattle.model.proofs.Calls.{by-volume, by-own, does-refuse, does-serve}
+use Rattle.laws.proofs.Calls.{by-volume, by-own, does-refuse, does-serve}
 use Rattle.model.proofs.Check.{verdict-accepted}
 use Rattle.volume.specs.declared.CheckAnswer.{CheckAnswer}
 use Rattle.volume.specs.Told.{toldCheck}

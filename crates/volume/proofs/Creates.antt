@@ -15,12 +15,12 @@ use Rattle.model.specs.Calls.{Does, Fits, nameOf, forkGiven, badName, refuses, 
 use Rattle.model.specs.Calls.Call.{create}
 use Rattle.history.proofs.Answers.{GoodName, good-name}
 use Rattle.directory.specs.Cursor.{Begins}
-use Rattle.directory.specs.Rooms.{HasRoom, Roomy}
+use Rattle.entries.specs.Rooms.{HasRoom, Roomy}
 use Rattle.model.specs.declared.VolumeFacts.{VolumeFacts}
 use Rattle.directory.specs.declared.Cursor.{Cursor}
 use Rattle.directory.specs.declared.EntryAt.{EntryAt}
-use Rattle.directory.specs.declared.Room.{Room}
-use Rattle.directory.specs.declared.Room.the-variants.{At, Nothing}
+use Rattle.entries.specs.declared.Room.{Room}
+use Rattle.entries.specs.declared.Room.the-variants.{At, Nothing}
 use Rattle.files.specs.Adding.{Adds, withFile}
 use Rattle.volume.specs.Told.{toldNumber}
 use Rattle.files.specs.Lookup.{Readable, Found, Missed}

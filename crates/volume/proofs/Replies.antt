@@ -16,12 +16,12 @@ use Rattle.model.specs.Calls.{Call, Does, Fits, nameOf, forkGiven, badName, ref
 use Rattle.model.specs.Calls.{forkBytes, readCount, copied, change, only, lent, reply, tellsEntry, tellsBlock, tellsBytes}
 use Rattle.model.specs.Calls.Call.{entry, find, block, read, create, write, cut, delete}
 use Rattle.model.proofs.Check.{accepted-verdict}
-use Rattle.model.proofs.Calls.{by-volume, by-own, does-refuse, does-serve}
+use Rattle.laws.proofs.Calls.{by-volume, by-own, does-refuse, does-serve}
 use Rattle.history.proofs.Answers.{own-is, named-length}
 use Rattle.history.proofs.Reading.{lengths}
 use Rattle.blockmap.specs.Places.{IsPlace}
 use Rattle.directory.specs.Cursor.{bytesAt}
-use Rattle.directory.specs.Search.{Placed}
+use Rattle.search.specs.Search.{Placed}
 use Rattle.model.specs.declared.VolumeFacts.{VolumeFacts}
 use Rattle.model.specs.declared.DirectoryEntry.{DirectoryEntry}
 use Rattle.model.specs.declared.Fork.{Fork}

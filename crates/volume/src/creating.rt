@@ -4,7 +4,7 @@ ghost use Rattle.files.specs.Lookup.{Readable};
 ghost use Rattle.volume.specs.Told.{toldNumber};
 use crate::checking::check;
 use directory::EntryAt;
-use directory::Room;
+use entries::Room;
 use files::Named;
 use files::first_entry;
 use files::is_locked;
@@ -37,7 +37,7 @@ fn serve_create(
                 return 19;
             }
             let size = EntryAt::TITLE_AT + name.len();
-            match directory::find_room(image, first_entry(f), size + size % 2) {
+            match entries::find_room(image, first_entry(f), size + size % 2) {
                 Room::Nothing => 18,
                 Room::At(base, end) => {
                     files::add_file(image, f, base, end, name, finder, created, changed);

@@ -7,7 +7,6 @@ use crate::EntryAnswer;
 use crate::FindAnswer;
 use crate::ReadAnswer;
 use crate::answers::no_entry;
-use directory::Found;
 use files::Named;
 use files::first_entry;
 use files::lookup;
@@ -15,13 +14,14 @@ use forks::copy_fork;
 use model::AllocationBlock;
 use model::Fork;
 use model::VolumeFacts;
+use search::Found;
 
 // For a program that has checked the image: its facts spare the check for each file.
 pub fn serve_entry(image: &[u8], f: VolumeFacts, place: u64) -> EntryAnswer
     requires { ⌜ Readable f (now image) ⌝ }
     ensures { λ r. ⌜ Does (Call.entry place) (now (image .entry)) (toldEntry r) (now (image .exit)) ⌝ }
 {
-    match directory::entry_at(image, first_entry(f), place) {
+    match search::entry_at(image, first_entry(f), place) {
         Found::At(_, e) => EntryAnswer {
             number: 0,
             entry: directory::read_entry(image, e),

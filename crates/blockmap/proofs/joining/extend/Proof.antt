@@ -9,7 +9,7 @@ use lib.ListN.{length, take}
 use Rattle.model.specs.Bytes.{Bytes}
 use Rattle.model.specs.Lists.{firstOr0}
 use Rattle.model.specs.Map.{mapEntry, runs, chainBlocks, freeBlocks, putChain}
-use Rattle.model.proofs.Entries.{length-setEntry}
+use Rattle.laws.proofs.Entries.{length-setEntry}
 use Rattle.blockmap.specs.Free.{freeFrom}
 use Rattle.blockmap.proofs.Chains.{at}
 use Rattle.blockmap.proofs.Linking.{standing, free-all}

@@ -6,7 +6,7 @@ use native.Mathlib.Omega.{arith}
 use denote.Ref.{now}
 use lib.ListN.{length}
 use Rattle.model.specs.Map.{mapEntry, chainBlocks, putFree}
-use Rattle.model.proofs.Entries.{length-setEntry}
+use Rattle.laws.proofs.Entries.{length-setEntry}
 use Rattle.blockmap.proofs.Freeing.{Freeing, freeing, free-block, free-next, freed}
 use Rattle.blockmap.proofs.joining.free_chain.Statement.{statement}
 use Rattle.blockmap.proofs.joining.free_chain.Tie as tie

@@ -5,7 +5,7 @@ use native.Mathlib.Omega.{arith}
 use denote.Ref.{now}
 use lib.ListN.{length, take}
 use Rattle.model.specs.Map.{mapEntry, putChain}
-use Rattle.model.proofs.Entries.{length-setEntry}
+use Rattle.laws.proofs.Entries.{length-setEntry}
 use Rattle.blockmap.specs.Free.{freeFrom}
 use Rattle.blockmap.proofs.Linking.{Linking, link-more, link-next, link-last}
 use Rattle.blockmap.proofs.joining.join_free.Statement.{statement}

@@ -7,7 +7,7 @@ use denote.Ref.{now}
 use lib.ListN.{length}
 use Rattle.model.specs.Bytes.{Bytes}
 use Rattle.model.specs.Map.{mapEntry, runs, chainBlocks}
-use Rattle.model.proofs.Entries.{length-setEntry}
+use Rattle.laws.proofs.Entries.{length-setEntry}
 use Rattle.blockmap.proofs.Chains.{at}
 use Rattle.blockmap.proofs.Changes.{short-none, short-all, rest-runs, short-leaves}
 use borrow.Author.Needs.{needs}

@@ -4,7 +4,7 @@ use native.Mathlib.Nat.{add-zero}
 use lib.ListN.{drop}
 use denote.Ref.{now}
 use Rattle.model.specs.Bytes.{be16}
-use Rattle.model.proofs.Stores.{be16-drop, be32-drop}
+use Rattle.laws.proofs.Stores.{be16-drop, be32-drop}
 use Rattle.directory.proofs.Parts.{fork-are}
 use borrow.Author.Needs.{needs}
 use Rattle.directory.proofs.fields.fork_at.Statement.{statement}

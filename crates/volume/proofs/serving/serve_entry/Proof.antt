@@ -2,7 +2,7 @@
 use native.Mathlib.Omega.{arith}
 use denote.Ref.{now}
 use Rattle.model.specs.Directory.{directory}
-use Rattle.directory.specs.Search.{Placed}
+use Rattle.search.specs.Search.{Placed}
 use Rattle.files.proofs.Octets.{octets}
 use Rattle.files.proofs.Lookups.{some-block, first-passes, given-at, given-none}
 use Rattle.volume.proofs.Replies.{entry-refused, entry-served}

@@ -1,0 +1,203 @@
+-- Laws of lists that the directory needs: tests under a map, the first that passes a test, the only one that does, and files
+-- that are the history's in some order.
+use Prim.Native.Nat.{ℕ, zero, suc, _<_}
+use mathlib.Core.Path.{_≡_, refl, sym, ap, _∙_}
+use mathlib.Core.Bool.{Bool, true, false, not, _&&_, _||_, cond}
+use mathlib.Core.List.{List, [], _∷_, _++_, map, append-nil, map-append}
+use native.Mathlib.Omega.{arith}
+use lib.ListN.{length, getD}
+use borrow.Author.Tests.{not-true}
+use Rattle.model.specs.Lists.{every, any, distinct, keep, first, Reordered, none, next, swap, then}
+use Rattle.model.proofs.Lists.{and-true, or-false, so-not, any-append, any-at, keep-append, keep-all, back, middle, reordered-map, reordered-keep, keep-map, reordered-distinct}
+
+-- ---- tests
+
+module _ {A : Type 0} where
+  -- whoever passes a test passes a weaker one
+  pub every-weaker : (p q : A → Bool) → ((x : A) → p x ≡ true → q x ≡ true) → (xs : List A) → every p xs ≡ true → every q xs ≡ true
+  unfolding every
+  every-weaker p q w [] h = refl
+  every-weaker p q w (x ∷ xs) h = let s = and-true (p x) (every p xs) h in rw (w x (s .0), every-weaker p q w xs (s .1))
+
+  pub every-both : (p q : A → Bool) (xs : List A) → every p xs ≡ true → every q xs ≡ true → every (λ x. p x && q x) xs ≡ true
+  unfolding every
+  every-both p q [] h k = refl
+  every-both p q (x ∷ xs) h k =
+      let a = and-true (p x) (every p xs) h in
+      let b = and-true (q x) (every q xs) k in
+      rw (a .0, b .0, every-both p q xs (a .1) (b .1))
+
+  pub none-of : (p q : A → Bool) → ((x : A) → p x ≡ true → q x ≡ false) → (xs : List A) → every p xs ≡ true → any q xs ≡ false
+  unfolding every any
+  none-of p q w [] h = refl
+  none-of p q w (x ∷ xs) h = let s = and-true (p x) (every p xs) h in rw (w x (s .0), none-of p q w xs (s .1))
+
+  -- fewer pass a stronger test
+  pub none-stronger : (p q : A → Bool) → ((x : A) → p x ≡ true → q x ≡ true) → (xs : List A) → any q xs ≡ false → any p xs ≡ false
+  unfolding any
+  none-stronger p q w [] h = refl
+  none-stronger p q w (x ∷ xs) h = let s = or-false (q x) (any q xs) h in rw (fails (p x) refl (s .0), none-stronger p q w xs (s .1))
+    where
+      fails : (t : Bool) → p x ≡ t → q x ≡ false → p x ≡ false
+      fails true e f = absurd (so-not (q x) f (w x e))
+      fails false e f = e
+
+  -- the first element that passes a test
+  pub any-split : (p : A → Bool) (xs : List A) → any p xs ≡ true
+      → (a : List A) × (x : A) × (b : List A) × (xs ≡ a ++ (x ∷ b)) × (any p a ≡ false) × (p x ≡ true)
+  unfolding any
+  any-split p [] h = absurd (let z : _≡_ {A = ℕ} 0 1 = cc in omega arith)
+  any-split p (y ∷ xs) h = go (p y) refl h (any-split p xs)
+    where
+      go : (t : Bool) → p y ≡ t → (t || any p xs) ≡ true → (any p xs ≡ true → (a : List A) × (x : A) × (b : List A) × (xs ≡ a ++ (x ∷ b)) × (any p a ≡ false) × (p x ≡ true))
+          → (a : List A) × (x : A) × (b : List A) × (y ∷ xs ≡ a ++ (x ∷ b)) × (any p a ≡ false) × (p x ≡ true)
+      go true e h ih = ([], y, xs, refl, refl, e)
+      go false e h ih = let s = ih h in (y ∷ s .0, s .1, s .2, ap (λ (r : List A). y ∷ r) (s .3), rw (e, s .4), s .5)
+
+  -- a map that changes only what passes a test
+  pub map-none : (p : A → Bool) (f : A → A) → ((x : A) → p x ≡ false → f x ≡ x) → (xs : List A) → any p xs ≡ false → map f xs ≡ xs
+  unfolding any
+  map-none p f w [] h = refl
+  map-none p f w (x ∷ xs) h = let s = or-false (p x) (any p xs) h in rw (w x (s .0), map-none p f w xs (s .1))
+
+  -- of elements that differ, where one in front passes a test that only the same elements pass, none behind does
+  pub none-behind : (same : A → A → Bool) (p : A → Bool) → ((x y : A) → p x ≡ true → p y ≡ true → same x y ≡ true)
+      → (xs ys : List A) → distinct same (xs ++ ys) ≡ true → any p xs ≡ true → any p ys ≡ false
+  unfolding distinct any
+  none-behind same p w [] ys d h = absurd (let z : _≡_ {A = ℕ} 0 1 = cc in omega arith)
+  none-behind same p w (x ∷ xs) ys d h =
+      let s = and-true (not (any (same x) (xs ++ ys))) (distinct same (xs ++ ys)) d in
+      go (p x) refl h (not-true _ (s .0)) (none-behind same p w xs ys (s .1))
+    where
+      go : (t : Bool) → p x ≡ t → (t || any p xs) ≡ true → any (same x) (xs ++ ys) ≡ false → (any p xs ≡ true → any p ys ≡ false) → any p ys ≡ false
+      go true e h n ih = or-false (any p xs) (any p ys) (sym (any-append p xs ys) ∙ none-stronger p (same x) (λ y t. w x y e t) (xs ++ ys) n) .1
+      go false e h n ih = ih h
+
+module _ {A B : Type 0} where
+  pub every-map : (p : B → Bool) (q : A → Bool) (f : A → B) → ((x : A) → p (f x) ≡ q x) → (xs : List A) → every p (map f xs) ≡ every q xs
+  unfolding every
+  every-map p q f h [] = refl
+  every-map p q f h (x ∷ xs) = rw (h x, every-map p q f h xs)
+
+  pub any-map : (p : B → Bool) (q : A → Bool) (f : A → B) → ((x : A) → p (f x) ≡ q x) → (xs : List A) → any p (map f xs) ≡ any q xs
+  unfolding any
+  any-map p q f w [] = refl
+  any-map p q f w (x ∷ xs) = rw (w x, any-map p q f w xs)
+
+  pub distinct-map : (same : B → B → Bool) (like : A → A → Bool) (f : A → B) → ((x y : A) → same (f x) (f y) ≡ like x y)
+      → (xs : List A) → distinct same (map f xs) ≡ distinct like xs
+  unfolding distinct
+  distinct-map same like f w [] = refl
+  distinct-map same like f w (x ∷ xs) = rw (any-map (same (f x)) (like x) f (w x) xs, distinct-map same like f w xs)
+
+-- ---- the only one
+
+-- just one element of xs passes p
+pub record Alone {A : Type 0} (p : A → Bool) (xs : List A) : Type 0 where
+  pub before : List A
+  pub it : A
+  pub behind : List A
+  pub whole : xs ≡ before ++ (it ∷ behind)
+  pub passes : p it ≡ true
+  pub noneBefore : any p before ≡ false
+  pub noneBehind : any p behind ≡ false
+
+module _ {A : Type 0} where
+  -- of elements that differ, just one passes a test that only the same elements pass
+  pub alone : (same : A → A → Bool) → ((x y : A) → same x y ≡ same y x) → (p : A → Bool) → ((x y : A) → p x ≡ true → p y ≡ true → same x y ≡ true)
+      → (xs : List A) → distinct same xs ≡ true → any p xs ≡ true → Alone p xs
+  unfolding distinct
+  alone same c p w xs d h =
+      let s = any-split p xs h in
+      let a = s .0 in
+      let x = s .1 in
+      let b = s .2 in
+      let r = sym (reordered-distinct same c (middle x a b)) ∙ ap (distinct same) (sym (s .3)) ∙ d in
+      let n = not-true _ (and-true (not (any (same x) (a ++ b))) (distinct same (a ++ b)) r .0) in
+      let o = or-false (any p a) (any p b) (sym (any-append p a b) ∙ none-stronger p (same x) (λ y t. w x y (s .5) t) (a ++ b) n) in
+      record { before = a; it = x; behind = b; whole = s .3; passes = s .5; noneBefore = o .0; noneBehind = o .1 }
+
+  module _ (p : A → Bool) (xs : List A) (o : Alone p xs) where
+    first-front : (d : A) (ys zs : List A) → any p ys ≡ false → first p d (ys ++ zs) ≡ first p d zs
+    unfolding any first
+    first-front d [] zs h = refl
+    first-front d (y ∷ ys) zs h = let s = or-false (p y) (any p ys) h in rw (s .0, first-front d ys zs (s .1))
+
+    pub alone-first : (d : A) → first p d xs ≡ o .it
+    unfolding first
+    alone-first d = ap (first p d) (o .whole) ∙ first-front d (o .before) (o .it ∷ o .behind) (o .noneBefore) ∙ rw (o .passes)
+
+    pub alone-keep : keep (λ x. not (p x)) xs ≡ o .before ++ o .behind
+    unfolding keep
+    alone-keep =
+        ap (keep (λ x. not (p x))) (o .whole)
+        ∙ rw (keep-append (λ x. not (p x)) (o .before) (o .it ∷ o .behind), o .passes, keep-all p (o .before) (o .noneBefore), keep-all p (o .behind) (o .noneBehind))
+
+    pub alone-map : (f : A → A) → ((x : A) → p x ≡ false → f x ≡ x) → map f xs ≡ o .before ++ (f (o .it) ∷ o .behind)
+    alone-map f w =
+        ap (map f) (o .whole)
+        ∙ rw (map-append f (o .before) (o .it ∷ o .behind), map-none p f w (o .before) (o .noneBefore), map-none p f w (o .behind) (o .noneBehind))
+
+    pub alone-any : any p xs ≡ true
+    unfolding any
+    alone-any = ap (any p) (o .whole) ∙ rw (any-append p (o .before) (o .it ∷ o .behind), o .noneBefore, o .passes)
+
+-- ---- the history
+
+-- E an entry of the image, F a file as the history holds it; `tell` and `tells` read a file from an entry, before and after the
+-- change
+module _ {E F : Type 0} (tell tells : E → F) (es : List E) {hs : List F} (r : Reordered (map tell es) hs) where
+  -- the new entry is somewhere in the image, the new file at the history's end
+  pub after-create : (e : E) {fs : List E} (x : F) → Reordered fs (e ∷ es) → tells e ≡ x → map tells es ≡ map tell es → Reordered (map tells fs) (hs ++ (x ∷ []))
+  after-create e x p n o =
+      let q : Reordered (map tells (e ∷ es)) (x ∷ hs) = rw (n, o) (next x r) in
+      then (reordered-map tells p) (then q (rw append-nil at (back (middle x hs []))))
+
+  pub after-delete : (p : E → Bool) (q : F → Bool) → ((e : E) → q (tell e) ≡ p e) → map tells (keep p es) ≡ map tell (keep p es) → Reordered (map tells (keep p es)) (keep q hs)
+  after-delete p q w o = rw (o, ← keep-map tell p q w es) (reordered-keep q r)
+
+  pub after-change : (f : E → E) (g : F → F) → map tells (map f es) ≡ map g (map tell es) → Reordered (map tells (map f es)) (map g hs)
+  after-change f g o = rw o (reordered-map g r)
+
+-- the first that passes a test is the same, where no two can pass it
+pub first-same : {A : Type 0} (same : A → A → Bool) → ((x y : A) → same x y ≡ same y x) → (p : A → Bool) → ((x y : A) → p x ≡ true → p y ≡ true → same x y ≡ true)
+    → (d : A) {xs ys : List A} → Reordered xs ys → distinct same xs ≡ true → first p d xs ≡ first p d ys
+unfolding first distinct any
+first-same same c p w d none h = refl
+first-same {A} same c p w d (next x {xs} {ys} r) h =
+    let s = and-true (not (any (same x) xs)) (distinct same xs) h in
+    ap (λ (a : A). cond (p x) x a) (first-same same c p w d r (s .1))
+first-same same c p w d (swap x y xs) h = go (p x) (p y) refl refl
+  where
+    go : (a b : Bool) → p x ≡ a → p y ≡ b → cond a x (cond b y (first p d xs)) ≡ cond b y (cond a x (first p d xs))
+    go true true e f = absurd (so-not (same x y) (or-false (same x y) (any (same x) xs) (not-true _ (and-true _ _ h .0)) .0) (w x y e f))
+    go true false e f = refl
+    go false true e f = refl
+    go false false e f = refl
+first-same same c p w d (then r s) h = first-same same c p w d r h ∙ first-same same c p w d s (sym (reordered-distinct same c r) ∙ h)
+
+pub first-map : {A B : Type 0} (f : A → B) (p : A → Bool) (q : B → Bool) → ((x : A) → q (f x) ≡ p x) → (d : A) (xs : List A) → f (first p d xs) ≡ first q (f d) (map f xs)
+unfolding first
+first-map f p q w d [] = refl
+first-map {A} {B} f p q w d (x ∷ xs) = rw (w x, ← first-map f p q w d xs) (go (p x) (first p d xs))
+  where
+    go : (b : Bool) (r : A) → f (cond b x r) ≡ cond b (f x) (f r)
+    go true r = refl
+    go false r = refl
+
+-- files that a change leaves alike, one by one: t is whatever the change needs to know of an entry
+pub map-where : {E F : Type 0} (tell tells : E → F) (g : E → E) (h : F → F) (t : E → Bool) → ((x : E) → t x ≡ true → tells (g x) ≡ h (tell x))
+    → (es : List E) → every t es ≡ true → map tells (map g es) ≡ map h (map tell es)
+unfolding every
+map-where tell tells g h t w [] e = refl
+map-where tell tells g h t w (x ∷ es) e = let s = and-true (t x) (every t es) e in rw (w x (s .0), map-where tell tells g h t w es (s .1))
+
+-- the first that is the same as the one at a place is that one, where no two are the same
+pub first-at : {A : Type 0} (same : A → A → Bool) → ((x : A) → same x x ≡ true) → (d : A) (xs : List A) (i : ℕ) → i < length xs → distinct same xs ≡ true
+    → first (λ x. same x (getD xs i d)) d xs ≡ getD xs i d
+unfolding first distinct
+first-at same r d [] i l h = absurd (omega arith)
+first-at same r d (x ∷ xs) zero l h = rw (r x)
+first-at same r d (x ∷ xs) (suc i) l h =
+    let s = and-true (not (any (same x) xs)) (distinct same xs) h in
+    rw (any-at (same x) d xs (not-true _ (s .0)) i (omega arith)) (first-at same r d xs i (omega arith) (s .1))
