@@ -8,17 +8,17 @@ use native.Mathlib.Nat.{mul-le-mul}
 use lib.ListN.{length, drop}
 use lib.Seq.{getD-drop}
 use lib.Dec.{eqb, ltb}
-use borrow.Author.Tests.{eqb-true, ltb-false, eq-eqb, ne-eqb, le-ltb, lt-ltb, not-false}
+use borrow.Author.Tests.{ltb-false, eq-eqb, ne-eqb, le-ltb, lt-ltb}
 use Rattle.model.specs.Lists.{every, distinct}
 use Rattle.model.specs.Bytes.{be16, Bytes}
-use Rattle.model.specs.Facts.{factsIn, factsOf, dirStart, dirLength, N, A, S, nextNumber, blocksIn}
+use Rattle.model.specs.Facts.{factsIn, factsOf, dirStart, dirLength, N, S, nextNumber, blocksIn}
 use Rattle.model.specs.Map.{mapEntry}
 use Rattle.model.specs.Directory.{directory, forksIn}
 use Rattle.model.specs.Check.{orElse, fires1, fires2, fires3, fires4, fires5, fires6, goodNumber, sameNumbers, sameNames, fires7}
 use Rattle.model.specs.Check.{from8, from7, from6, from5, from4, from3, from2, SoundFacts}
 use Rattle.model.specs.declared.VolumeFacts.{VolumeFacts}
 use Rattle.model.proofs.Lists.{or-false, so-not}
-use Rattle.model.proofs.Check.{else-zero, sound-facts}
+use Rattle.model.proofs.Check.{Layout, layout, else-zero, sound-facts}
 use Rattle.directory.specs.declared.Cursor.{Cursor}
 use Rattle.directory.specs.Cursor.{restOf, Begins}
 use Rattle.directory.proofs.Whole.{begins-directory}
@@ -46,70 +46,14 @@ three-some false u v i j k r n h z = two-some u v j k r n h z
 
 -- ---- check 3
 
--- what check 3 asks before the next file number
-pub record Layout (f : VolumeFacts) (blocks : ℕ) : Type 0 where
-  pub multiple : A f % 512 ≡ 0
-  pub large : 512 ≤ A f
-  pub small : A f ≤ 32768
-  pub some : 1 ≤ N f
-  pub most : N f ≤ 640
-  pub dirSome : 1 ≤ dirLength f
-  pub dirMost : dirLength f ≤ 256
-  pub dirBehind : 4 ≤ dirStart f
-  pub dirBefore : dirStart f + dirLength f ≤ S f
-  pub backup : S f + N f * A f / 512 ≤ blocks - 2
-
 module _ (f : VolumeFacts) (blocks : ℕ) where
-  layout : fires3 f blocks ≡ false → Layout f blocks
-  unfolding fires3
-  layout h =
-      let c = or-false (not (eqb (A f % 512) 0)) _ h in
-      let d = or-false (ltb (A f) 512) _ (c .1) in
-      let e = or-false (ltb 32768 (A f)) _ (d .1) in
-      let g = or-false (ltb (N f) 1) _ (e .1) in
-      let h = or-false (ltb 640 (N f)) _ (g .1) in
-      let i = or-false (ltb (dirLength f) 1) _ (h .1) in
-      let j = or-false (ltb 256 (dirLength f)) _ (i .1) in
-      let k = or-false (ltb (dirStart f) 4) _ (j .1) in
-      let l = or-false (ltb (S f) (dirStart f + dirLength f)) _ (k .1) in
-      let m = or-false (ltb (blocks - 2) (S f + N f * A f / 512)) _ (l .1) in
-      record {
-        multiple = eqb-true (A f % 512) 0 (not-false _ (c .0));
-        large = ltb-false (A f) 512 (d .0);
-        small = ltb-false 32768 (A f) (e .0);
-        some = ltb-false (N f) 1 (g .0);
-        most = ltb-false 640 (N f) (h .0);
-        dirSome = ltb-false (dirLength f) 1 (i .0);
-        dirMost = ltb-false 256 (dirLength f) (j .0);
-        dirBehind = ltb-false (dirStart f) 4 (k .0);
-        dirBefore = ltb-false (S f) (dirStart f + dirLength f) (l .0);
-        backup = ltb-false (blocks - 2) (S f + N f * A f / 512) (m .0);
-      }
-
-  -- it fires where one of them fails
+  -- it fires where something of the layout fails
   pub layout-fires : (Layout f blocks → ⊥) → true ≡ fires3 f blocks
   layout-fires z = go (fires3 f blocks) refl
     where
       go : (t : Bool) → fires3 f blocks ≡ t → true ≡ t
       go true h = refl
-      go false h = absurd (z (layout h))
-
-  -- and where none does, the next file number is left
-  pub layout-left : Layout f blocks → eqb (nextNumber f) 0 ≡ fires3 f blocks
-  unfolding fires3
-  layout-left s =
-      rw (
-        eq-eqb (A f % 512) 0 (s .multiple),
-        le-ltb (A f) 512 (s .large),
-        le-ltb 32768 (A f) (s .small),
-        le-ltb (N f) 1 (s .some),
-        le-ltb 640 (N f) (s .most),
-        le-ltb (dirLength f) 1 (s .dirSome),
-        le-ltb 256 (dirLength f) (s .dirMost),
-        le-ltb (dirStart f) 4 (s .dirBehind),
-        le-ltb (S f) (dirStart f + dirLength f) (s .dirBefore),
-        le-ltb (blocks - 2) (S f + N f * A f / 512) (s .backup),
-      )
+      go false h = absurd (z (layout f blocks h))
 
 -- the bytes of all allocation blocks fit a number of 32 bits
 pub area-fits : (n a : ℕ) → n ≤ 640 → a ≤ 32768 → n * a ≤ 20971520

@@ -28,13 +28,24 @@ use Rattle.model.proofs.Map.{bad-above, runs-chain, chain-runs, chain-l
 
 -- ---- 1 to 4
 
-module _ (f : VolumeFacts) (size : ℕ) where
-  pub sound-facts : fires1 size ≡ false → fires2 f ≡ false → fires3 f (size / 512) ≡ false → fires4 f ≡ false → SoundFacts f size
-  unfolding fires1 fires2 fires3 fires4
-  sound-facts h₁ h₂ h₃ h₄ =
-      let a = or-false (not (eqb (size % 512) 0)) _ h₁ in
-      let b = or-false (ltb (size / 512) 8) _ (a .1) in
-      let c = or-false (not (eqb (A f % 512) 0)) _ h₃ in
+-- what check 3 asks before the next file number
+pub record Layout (f : VolumeFacts) (blocks : ℕ) : Type 0 where
+  pub multiple : A f % 512 ≡ 0
+  pub large : 512 ≤ A f
+  pub small : A f ≤ 32768
+  pub some : 1 ≤ N f
+  pub most : N f ≤ 640
+  pub dirSome : 1 ≤ dirLength f
+  pub dirMost : dirLength f ≤ 256
+  pub dirBehind : 4 ≤ dirStart f
+  pub dirBefore : dirStart f + dirLength f ≤ S f
+  pub backup : S f + N f * A f / 512 ≤ blocks - 2
+
+module _ (f : VolumeFacts) (blocks : ℕ) where
+  pub layout : fires3 f blocks ≡ false → Layout f blocks
+  unfolding fires3
+  layout h =
+      let c = or-false (not (eqb (A f % 512) 0)) _ h in
       let d = or-false (ltb (A f) 512) _ (c .1) in
       let e = or-false (ltb 32768 (A f)) _ (d .1) in
       let g = or-false (ltb (N f) 1) _ (e .1) in
@@ -43,12 +54,8 @@ module _ (f : VolumeFacts) (size : ℕ) where
       let j = or-false (ltb 256 (dirLength f)) _ (i .1) in
       let k = or-false (ltb (dirStart f) 4) _ (j .1) in
       let l = or-false (ltb (S f) (dirStart f + dirLength f)) _ (k .1) in
-      let m = or-false (ltb (size / 512 - 2) (S f + N f * A f / 512)) _ (l .1) in
+      let m = or-false (ltb (blocks - 2) (S f + N f * A f / 512)) _ (l .1) in
       record {
-        whole = eqb-true (size % 512) 0 (not-false _ (a .0));
-        many = ltb-false (size / 512) 8 (b .0);
-        few = ltb-false 65535 (size / 512) (b .1);
-        signed = eqb-true (f .signature) 0xd2d7 (not-false _ h₂);
         multiple = eqb-true (A f % 512) 0 (not-false _ (c .0));
         large = ltb-false (A f) 512 (d .0);
         small = ltb-false 32768 (A f) (e .0);
@@ -58,8 +65,50 @@ module _ (f : VolumeFacts) (size : ℕ) where
         dirMost = ltb-false 256 (dirLength f) (j .0);
         dirBehind = ltb-false (dirStart f) 4 (k .0);
         dirBefore = ltb-false (S f) (dirStart f + dirLength f) (l .0);
-        backup = ltb-false (size / 512 - 2) (S f + N f * A f / 512) (m .0);
-        numbered = let z = eqb-false (nextNumber f) 0 (m .1) in omega arith;
+        backup = ltb-false (blocks - 2) (S f + N f * A f / 512) (m .0);
+      }
+
+  -- where all that holds, the next file number is left
+  pub layout-left : Layout f blocks → eqb (nextNumber f) 0 ≡ fires3 f blocks
+  unfolding fires3
+  layout-left s =
+      rw (
+        eq-eqb (A f % 512) 0 (s .multiple),
+        le-ltb (A f) 512 (s .large),
+        le-ltb 32768 (A f) (s .small),
+        le-ltb (N f) 1 (s .some),
+        le-ltb 640 (N f) (s .most),
+        le-ltb (dirLength f) 1 (s .dirSome),
+        le-ltb 256 (dirLength f) (s .dirMost),
+        le-ltb (dirStart f) 4 (s .dirBehind),
+        le-ltb (S f) (dirStart f + dirLength f) (s .dirBefore),
+        le-ltb (blocks - 2) (S f + N f * A f / 512) (s .backup),
+      )
+
+module _ (f : VolumeFacts) (size : ℕ) where
+  pub sound-facts : fires1 size ≡ false → fires2 f ≡ false → fires3 f (size / 512) ≡ false → fires4 f ≡ false → SoundFacts f size
+  unfolding fires1 fires2 fires4
+  sound-facts h₁ h₂ h₃ h₄ =
+      let a = or-false (not (eqb (size % 512) 0)) _ h₁ in
+      let b = or-false (ltb (size / 512) 8) _ (a .1) in
+      let y = layout f (size / 512) h₃ in
+      let n = layout-left f (size / 512) y ∙ h₃ in
+      record {
+        whole = eqb-true (size % 512) 0 (not-false _ (a .0));
+        many = ltb-false (size / 512) 8 (b .0);
+        few = ltb-false 65535 (size / 512) (b .1);
+        signed = eqb-true (f .signature) 0xd2d7 (not-false _ h₂);
+        multiple = y .multiple;
+        large = y .large;
+        small = y .small;
+        some = y .some;
+        most = y .most;
+        dirSome = y .dirSome;
+        dirMost = y .dirMost;
+        dirBehind = y .dirBehind;
+        dirBefore = y .dirBefore;
+        backup = y .backup;
+        numbered = let z = eqb-false (nextNumber f) 0 n in omega arith;
         title = ltb-false 27 (f .«name_length») h₄;
       }
 
@@ -73,21 +122,21 @@ module _ (f : VolumeFacts) (size : ℕ) where
     facts-pass2 = ap not (eq-eqb (f .signature) 0xd2d7 (s .signed))
 
     pub facts-pass3 : fires3 f (size / 512) ≡ false
-    unfolding fires3
     facts-pass3 =
-        rw (
-          eq-eqb (A f % 512) 0 (s .multiple),
-          le-ltb (A f) 512 (s .large),
-          le-ltb 32768 (A f) (s .small),
-          le-ltb (N f) 1 (s .some),
-          le-ltb 640 (N f) (s .most),
-          le-ltb (dirLength f) 1 (s .dirSome),
-          le-ltb 256 (dirLength f) (s .dirMost),
-          le-ltb (dirStart f) 4 (s .dirBehind),
-          le-ltb (S f) (dirStart f + dirLength f) (s .dirBefore),
-          le-ltb (size / 512 - 2) (S f + N f * A f / 512) (s .backup),
-        )
-        (ne-eqb (nextNumber f) 0 (omega (arith, s .numbered)))
+        let y : Layout f (size / 512)
+        = record {
+          multiple = s .multiple;
+          large = s .large;
+          small = s .small;
+          some = s .some;
+          most = s .most;
+          dirSome = s .dirSome;
+          dirMost = s .dirMost;
+          dirBehind = s .dirBehind;
+          dirBefore = s .dirBefore;
+          backup = s .backup;
+        } in
+        sym (layout-left f (size / 512) y) ∙ ne-eqb (nextNumber f) 0 (omega (arith, s .numbered))
 
     pub facts-pass4 : fires4 f ≡ false
     unfolding fires4

@@ -35,14 +35,16 @@ pub record Changing (call : Call) (image name : List ℕ) (rest : ℕ) : Type 0 
   pub lends : lent call ≡ []
   pub tells : reply call image ≡ only 0 []
 
+-- 16, 17 or 0
+abbrev pub behindOffset : List ℕ → List ℕ → Fork → ℕ → List ℕ → ℕ
+behindOffset image name fork offset bytes =
+    let f = factsOf image in
+    let g = forkOf fork (entryNamed name image) in
+    orElse (ltb (g .logical) offset) 16 (orElse (ltb (freeCount f) (needed (A f) (grown (g .logical) offset (length bytes)) (blockCount (A f) g))) 17 0)
+
 module _ (image name : List ℕ) where
   pub write-changing : (fork : Fork) (offset : ℕ) (bytes : List ℕ) (changed : ℕ)
-      → Changing (write name fork offset bytes changed) image name
-      (orElse (ltb (forkOf fork (entryNamed name image) .logical) offset) 16
-      (orElse
-      (ltb (freeCount (factsOf image))
-      (needed (A (factsOf image)) (grown (forkOf fork (entryNamed name image) .logical) offset (length bytes)) (blockCount (A (factsOf image)) (forkOf fork (entryNamed name image)))))
-      17 0))
+      → Changing (write name fork offset bytes changed) image name (behindOffset image name fork offset bytes)
   unfolding refuses knownIn nameOf forkGiven lent reply
   write-changing fork offset bytes changed = record { own = refl; lends = refl; tells = refl }
 

@@ -37,21 +37,12 @@ fn serve_write(
             if (g.logical as u64) < offset {
                 return 16;
             }
-            let new = new_blocks(f, g, offset as usize, bytes.len());
+            let at = offset as usize;
+            let new = new_blocks(f, g, at, bytes.len());
             if new.number != 0 {
                 return new.number;
             }
-            files::grow_fork(
-                image,
-                f,
-                e,
-                fork,
-                g,
-                new.blocks,
-                offset as usize,
-                bytes,
-                changed,
-            );
+            files::grow_fork(image, f, e, fork, g, new.blocks, at, bytes, changed);
             0
         }
     }

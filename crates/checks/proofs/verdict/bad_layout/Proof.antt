@@ -2,7 +2,8 @@
 use Prim.Native.Nat.{_*_, _≤_}
 use native.Mathlib.Omega.{arith}
 use Rattle.model.specs.Facts.{N, A}
-use Rattle.checks.proofs.Numbers.{layout-fires, layout-left, area-fits}
+use Rattle.model.proofs.Check.{layout-left}
+use Rattle.checks.proofs.Numbers.{layout-fires, area-fits}
 use borrow.Author.Needs.{needs}
 use Rattle.checks.proofs.verdict.bad_layout.Statement.{statement}
 use Rattle.checks.proofs.verdict.bad_layout.Tie as tie
