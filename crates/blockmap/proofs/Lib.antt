@@ -1,9 +1,5 @@
-pub mod Bits
 pub mod Ranges
 pub mod Counting
 pub mod Chains
 pub mod Walks
 pub mod Marks
-pub mod Freeing
-pub mod Linking
-pub mod Changes

@@ -1,3 +1,2 @@
-pub mod Free
 pub mod Marks
 pub mod Places

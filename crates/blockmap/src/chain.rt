@@ -7,9 +7,9 @@ ghost use Rattle.model.specs.Map.{mapEntry, runs, chainBlocks};
 ghost use Rattle.model.specs.Directory.{forkBlocks};
 ghost use Rattle.blockmap.specs.Marks.{fresh, marked, claims};
 ghost use Rattle.blockmap.specs.Places.{HasPlace, IsPlace};
-use crate::packed::load;
 use model::AllocationBlock;
 use model::ForkFacts;
+use packed::load;
 
 // Whether a chain of exactly k blocks runs from s, none of which is marked. Where it does, each of its blocks is marked.
 // Each call but the last marks a block that had no mark, so there are at most n + 1 of them, whatever k is.

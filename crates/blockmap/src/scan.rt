@@ -6,9 +6,9 @@ ghost use Rattle.model.specs.Map.{mapEntry, sortOf};
 ghost use Rattle.model.specs.Check.{fires5};
 ghost use Rattle.blockmap.specs.Marks.{Counted};
 use crate::Census;
-use crate::packed::load;
 use model::AllocationBlock;
 use model::MapValue;
+use packed::load;
 
 // What an entry of this value says on a volume of n allocation blocks. 4095, a directory inside the allocation area, is bad
 // for now.

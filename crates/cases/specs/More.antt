@@ -9,7 +9,7 @@ use Rattle.model.specs.Cases.{Row, AllRight, bad, refused, forkBytesOf, entryBy
 use Rattle.model.specs.Cases.Row.{does}
 use Rattle.model.specs.declared.Fork.the-variants.{Data, Resource}
 
--- each of checks 1 to 9
+-- checks 1 to 8
 unfoldable pub badVolumes : List Row
 badVolumes =
     -- 1 to 4

@@ -2,9 +2,3 @@ pub mod Octets
 pub mod Locked
 pub mod Lookups
 pub mod Forks
-pub mod Owned
-pub mod Elsewhere
-pub mod Grown
-pub mod Kept
-pub mod Freed
-pub mod Added

@@ -59,7 +59,7 @@ fn copy_blocks(
             return;
         }
         within = 0;
-        b = AllocationBlock(blockmap::load(image, b));
+        b = AllocationBlock(packed::load(image, b));
     }
 }
 
@@ -114,6 +114,6 @@ pub fn fill_fork(
             return;
         }
         at = 0;
-        block = AllocationBlock(blockmap::load(image, block));
+        block = AllocationBlock(packed::load(image, block));
     }
 }

@@ -15,16 +15,16 @@ use Rattle.model.specs.Facts.{factsOf, N, A, freeCount}
 use Rattle.model.specs.Map.{mapEntry}
 use Rattle.model.specs.Directory.{directory, forkOf, forksIn, blockCount, sameName}
 use Rattle.model.specs.Check.{Accepted}
-use Rattle.model.specs.Calls.{Call, nameOf, forkGiven, Known, badName, refuses, entryNamed, knownIn, readCount, copied, answer, after, lent, Does}
+use Rattle.model.specs.Calls.{Call, Answer, nameOf, forkGiven, Known, badName, refuses, entryNamed, knownIn, readCount, copied, answer, after, lent, Does}
 use Rattle.model.specs.Calls.Call.{check, entry, find, block, read, create, write, cut, delete}
-use Rattle.history.specs.History.{File, History, noFile, heldOf, called, fileCalled, knownTo, declines, writes}
+use Rattle.history.specs.History.{File, History, blocksOf, noFile, heldOf, called, fileCalled, knownTo, declines, writes}
 use Rattle.model.specs.Bytes.{overwritten}
 use Rattle.history.specs.History.{changedFork, onCalled, moves, step, Told, toldBy, toldOnly, says, tells, filesIn, reading, Agrees, Event, Run}
 use Rattle.history.specs.History.{isFull, asked, changes, RoomRule, Step, Holds, EveryRun}
 use Rattle.history.specs.Among.{Has, lastImage}
 use Rattle.history.specs.Untouched.{NoneNames, Untouched}
 use Rattle.history.specs.Deleting.{Deleting}
-use Rattle.history.specs.Room.{Room}
+use Rattle.history.specs.Room.{newBlocks, Room}
 use Rattle.history.specs.InPieces.{Writes, InPieces}
 use Rattle.history.specs.ReadBack.{ReadBack}
 use Rattle.history.specs.EveryList.{made, AllFit, EveryList}
@@ -138,9 +138,11 @@ deleting image name left given x acc m n i =
 
 -- ---- Room
 
-pub room : Room
-unfolding Room RoomRule reading knownTo knownIn EveryRun Run filesIn
-room image name fork offset bytes changed given left acc m n =
+only-full : (image name : List ℕ) (fork : Fork) (offset : ℕ) (bytes : List ℕ) (changed : ℕ) (given : Answer) (left : List ℕ)
+    → Accepted image → Does (write name fork offset bytes changed) image given left → given .number ≡ 17
+    → freeCount (factsOf image) < newBlocks image name fork offset (length bytes)
+unfolding RoomRule reading knownTo knownIn EveryRun Run filesIn
+only-full image name fork offset bytes changed given left acc m n =
     let f = factsOf image in
     let e : Event = record { call = write name fork offset bytes changed; given = given; left = left } in
     let h = reading image in
@@ -150,10 +152,18 @@ room image name fork offset bytes changed given left acc m n =
     let held = heldOf fork (fileCalled name h) in
     let logical : length (held .bytes) ≡ forkOf fork (entryNamed name image) .logical = ap (λ (k : Known). k .logical) k in
     let blocks : held .count ≡ blockCount (A f) (forkOf fork (entryNamed name image)) = ap (λ (k : Known). k .blocks) k in
-    let need = rw (rise-needed (A f) offset bytes held (none .within), logical, blocks) at (none .exceeds) in (
-      rw (same-free image h a) need,
-      rw (blocks-of f image (directory image)) (all-blocks (mapEntry image) (N f) (A f) (freeCount f) (forksIn (directory image)) (map-passes image acc)),
-    )
+    let need = rw (rise-needed (A f) offset bytes held (none .within), logical, blocks) at (none .exceeds) in
+    rw (same-free image h a) need
+
+none-hidden : (image : List ℕ) → Accepted image → freeCount (factsOf image) + blocksOf (filesIn image) ≡ N (factsOf image)
+unfolding filesIn
+none-hidden image acc =
+    let f = factsOf image in
+    rw (blocks-of f image (directory image)) (all-blocks (mapEntry image) (N f) (A f) (freeCount f) (forksIn (directory image)) (map-passes image acc))
+
+pub room : Room
+unfolding Room
+room = (only-full, none-hidden)
 
 -- ---- InPieces and ReadBack
 

@@ -17,10 +17,11 @@ newBlocks image name fork o n =
     let g = forkOf fork (entryNamed name image) in
     needed (A (factsOf image)) (grown (g .logical) o n) (blockCount (A (factsOf image)) g)
 
--- A write is refused for room only when its new blocks exceed the free blocks; free blocks and all forks' blocks together are N.
+-- A write is refused for room only when its new blocks exceed the free blocks; and on every accepted image free blocks and all
+-- forks' blocks together are N.
 unfoldable pub Room : Type 0
 Room =
-    (image name : List ℕ) (fork : Fork) (offset : ℕ) (bytes : List ℕ) (changed : ℕ) (given : Answer) (left : List ℕ)
+    ((image name : List ℕ) (fork : Fork) (offset : ℕ) (bytes : List ℕ) (changed : ℕ) (given : Answer) (left : List ℕ)
     → Accepted image → Does (write name fork offset bytes changed) image given left → given .number ≡ 17
-    → (freeCount (factsOf image) < newBlocks image name fork offset (length bytes))
-    × (freeCount (factsOf image) + blocksOf (filesIn image) ≡ N (factsOf image))
+    → freeCount (factsOf image) < newBlocks image name fork offset (length bytes))
+    × ((image : List ℕ) → Accepted image → freeCount (factsOf image) + blocksOf (filesIn image) ≡ N (factsOf image))

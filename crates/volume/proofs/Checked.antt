@@ -15,8 +15,8 @@ use Rattle.model.specs.Calls.Call.{check}
 use Rattle.model.specs.declared.VolumeFacts.{VolumeFacts}
 use Rattle.laws.proofs.Calls.{by-volume, by-own, does-refuse, does-serve}
 use Rattle.model.proofs.Check.{verdict-accepted}
-use Rattle.volume.specs.declared.CheckAnswer.{CheckAnswer}
-use Rattle.volume.specs.Told.{toldCheck}
+use Rattle.serving.specs.declared.CheckAnswer.{CheckAnswer}
+use Rattle.serving.specs.Told.{toldCheck}
 use Rattle.files.specs.Lookup.{Readable}
 use Rattle.checks.proofs.Numbers.{fires-here, passes-here}
 

@@ -1,10 +1,11 @@
 -- A list of public calls is a run, so the claim on every run is a claim on them.
 use Prim.Native.Nat.{ℕ}
+use mathlib.Core.Path.{refl}
 use mathlib.Core.List.{List, [], _∷_}
 use Rattle.model.specs.Calls.{Does}
 use Rattle.history.specs.History.{Event, Run, EveryRun}
 use Rattle.history.proofs.Run as history
-use Rattle.volume.specs.Runs.{Made, AllMade, PublicRuns}
+use Rattle.volume.specs.Runs.{Made, Happens, AllMade, PublicRuns}
 use Rattle.volume.specs.Runs.Made.{check, entry, find, block, read, create, write, cut, delete}
 
 does : (image : List ℕ) (e : Event) → Made image e → Does (e .call) image (e .given) (e .left)
@@ -26,3 +27,7 @@ is-run image (e ∷ events) m = (does image e (m .0), is-run (e .left) events (m
 pub public-runs : PublicRuns
 unfolding PublicRuns EveryRun
 public-runs image events acc m = history.every-run image events acc (is-run image events m)
+
+-- what was made happened
+pub happens : {image : List ℕ} {e : Event} → Made image e → Happens image (e .left)
+happens {image} {e} m = record { event = e; made = m; leaves = refl }

@@ -1,16 +1,17 @@
 -- The claim on every run, of events that are the nine public calls: of each event just what that call's contract says.
 use Prim.Native.Nat.{ℕ}
+use mathlib.Core.Path.{_≡_}
 use mathlib.Core.List.{List, [], _∷_}
 use Rattle.model.specs.Check.{Accepted}
 use Rattle.model.specs.Calls.{Call, Answer, Does}
 use Rattle.history.specs.History.{Event, reading, Agrees, Holds}
 use Rattle.model.specs.declared.Fork.{Fork}
-use Rattle.volume.specs.declared.CheckAnswer.{CheckAnswer}
-use Rattle.volume.specs.declared.EntryAnswer.{EntryAnswer}
-use Rattle.volume.specs.declared.FindAnswer.{FindAnswer}
-use Rattle.volume.specs.declared.BlockAnswer.{BlockAnswer}
-use Rattle.volume.specs.declared.ReadAnswer.{ReadAnswer}
-use Rattle.volume.specs.Told.{toldCheck, toldEntry, toldFind, toldBlock, toldRead, toldNumber}
+use Rattle.serving.specs.declared.CheckAnswer.{CheckAnswer}
+use Rattle.serving.specs.declared.EntryAnswer.{EntryAnswer}
+use Rattle.serving.specs.declared.FindAnswer.{FindAnswer}
+use Rattle.serving.specs.declared.BlockAnswer.{BlockAnswer}
+use Rattle.serving.specs.declared.ReadAnswer.{ReadAnswer}
+use Rattle.serving.specs.Told.{toldCheck, toldEntry, toldFind, toldBlock, toldRead, toldNumber}
 
 abbrev pub event : Call → Answer → List ℕ → Event
 event call given left = record { call = call; given = given; left = left }
@@ -34,6 +35,12 @@ pub data Made (image : List ℕ) : Event → Type 0 where
       → Made image (event (Call.cut name fork size changed) (toldNumber r) left)
   delete : (name : List ℕ) (r : ℕ) (left : List ℕ) → Does (Call.delete name) image (toldNumber r) left
       → Made image (event (Call.delete name) (toldNumber r) left)
+
+-- a call was made on the image and left this one
+pub record Happens (image left : List ℕ) : Type 0 where
+  pub event : Event
+  pub made : Made image event
+  pub leaves : event .left ≡ left
 
 -- each call was made on the image that the one before it left
 unfoldable pub AllMade : List ℕ → List Event → Type 0

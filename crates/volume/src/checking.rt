@@ -1,9 +1,9 @@
 // check: the number of the first check that fires, or the volume's facts.
 ghost use Rattle.model.specs.Calls.{Call, Does};
-ghost use Rattle.volume.specs.Told.{toldCheck};
-use crate::CheckAnswer;
-use crate::answers::no_facts;
+ghost use Rattle.serving.specs.Told.{toldCheck};
 use model::VolumeFacts;
+use serving::CheckAnswer;
+use serving::no_facts;
 
 // Checks the volume and gives its facts.
 pub fn check(image: &[u8]) -> CheckAnswer

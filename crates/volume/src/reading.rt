@@ -1,18 +1,18 @@
 // The calls that change nothing: each checks the volume, then answers.
 ghost use Rattle.model.specs.Calls.{Call, Does};
-ghost use Rattle.volume.specs.Told.{toldEntry, toldFind, toldBlock, toldRead};
-use crate::BlockAnswer;
-use crate::EntryAnswer;
-use crate::FindAnswer;
-use crate::ReadAnswer;
-use crate::answers::no_entry;
+ghost use Rattle.serving.specs.Told.{toldEntry, toldFind, toldBlock, toldRead};
 use crate::checking::check;
-use crate::serving::serve_block;
-use crate::serving::serve_entry;
-use crate::serving::serve_find;
-use crate::serving::serve_read;
 use model::AllocationBlock;
 use model::Fork;
+use serving::BlockAnswer;
+use serving::EntryAnswer;
+use serving::FindAnswer;
+use serving::ReadAnswer;
+use serving::no_entry;
+use serving::serve_block;
+use serving::serve_entry;
+use serving::serve_find;
+use serving::serve_read;
 
 // The entry at a place in directory order.
 pub fn entry(image: &[u8], place: u64) -> EntryAnswer

@@ -14,7 +14,7 @@ use borrow.Fn.PlainCycle.{Measures, is, falls, and}
 use Rattle.blockmap.proofs.chain.walk.Reads as walk
 use Rattle.blockmap.proofs.chain.walk.Kinds as walk-kinds
 use Rattle.blockmap.proofs.chain.+walk.Lts-walk as walk-lts
-use Rattle.blockmap.proofs.packed.load.Reads as load-reads
+use Rattle.packed.proofs.load.Reads as load-reads
 use Rattle.blockmap.proofs.chain.+walk.{statement}
 use Rattle.blockmap.proofs.chain.+walk.Tie.{close}
 

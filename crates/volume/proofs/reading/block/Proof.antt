@@ -3,7 +3,7 @@ use native.Mathlib.Omega.{arith}
 use denote.Ref.{now}
 use Rattle.files.proofs.Octets.{octets}
 use Rattle.volume.proofs.Checked.{checked, unchecked}
-use Rattle.volume.proofs.Replies.{block-stopped}
+use Rattle.volume.proofs.Stopped.{block-stopped}
 use borrow.Author.Needs.{needs}
 use Rattle.volume.proofs.reading.block.Statement.{statement}
 use Rattle.volume.proofs.reading.block.Tie as tie

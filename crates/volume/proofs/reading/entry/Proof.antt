@@ -2,7 +2,7 @@
 use native.Mathlib.Omega.{arith}
 use denote.Ref.{now}
 use Rattle.volume.proofs.Checked.{checked, unchecked}
-use Rattle.volume.proofs.Replies.{entry-stopped}
+use Rattle.volume.proofs.Stopped.{entry-stopped}
 use borrow.Author.Needs.{needs}
 use Rattle.volume.proofs.reading.entry.Statement.{statement}
 use Rattle.volume.proofs.reading.entry.Tie as tie

@@ -2,7 +2,7 @@
 use denote.Ref.{now}
 use Rattle.files.proofs.Octets.{octets}
 use Rattle.volume.proofs.Checked.{checked, unchecked}
-use Rattle.volume.proofs.Replies.{find-stopped}
+use Rattle.volume.proofs.Stopped.{find-stopped}
 use borrow.Author.Needs.{needs}
 use Rattle.volume.proofs.reading.find.Statement.{statement}
 use Rattle.volume.proofs.reading.find.Tie as tie

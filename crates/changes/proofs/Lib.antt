@@ -1,0 +1,6 @@
+pub mod Owned
+pub mod Elsewhere
+pub mod Grown
+pub mod Kept
+pub mod Freed
+pub mod Added
