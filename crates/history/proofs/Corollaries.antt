@@ -226,6 +226,10 @@ more-bytes old o sofar xs l e =
     ∙ sym (append-assoc sofar xs rest) in
     ap (take (length (sofar ++ xs))) behind ∙ take-append-seam (sofar ++ xs) rest
 
+-- the end of the bytes so far, after a piece more
+length-on : (o q : ℕ) (sofar xs : List ℕ) → o + length sofar ≡ q → o + length (sofar ++ xs) ≡ q + length xs
+length-on o q sofar xs p = omega (arith, length-append sofar xs, p)
+
 -- one fork of one file
 module _ (name : List ℕ) (fork : Fork) where
   bytesIn : History → List ℕ
@@ -303,7 +307,7 @@ module _ (name : List ℕ) (fork : Fork) where
       → Holding h o sofar → o + length sofar ≡ q → Writes name fork q pieces events → Holds image h (events ++ (final ∷ []))
       → (h′ : History) × Holding h′ o (sofar ++ flat pieces) × Step final (lastImage image events) h′
   unfolding Writes Holds flat lastImage
-  pieces-hold [] [] final image h o q sofar s p w c = (h, rw append-nil s, c .0)
+  pieces-hold [] [] final image h o q sofar s p w c = (h, subst (Holding h o) (sym (append-nil sofar)) s, c .0)
   pieces-hold [] (e ∷ events) final image h o q sofar s p w c = absurd w
   pieces-hold (xs ∷ pieces) [] final image h o q sofar s p w c = absurd w
   pieces-hold (xs ∷ pieces) (e ∷ events) final image h o q sofar s p w c =
@@ -314,8 +318,8 @@ module _ (name : List ℕ) (fork : Fork) where
       subst (λ (k : Call). Holding (step h full k) o (sofar ++ xs)) (sym call)
       (write-holds h full o sofar xs (w .0 .0) s (subst (λ (k : Call). declines h full k ≡ 0) call z)) in
       let r = pieces-hold pieces events final (e .left) (step h full (e .call)) o (q + length xs) (sofar ++ xs) n
-      (omega (arith, length-append sofar xs, p)) (w .2) (c .1) in
-      (r .0, rw append-assoc at (r .1), r .2)
+      (length-on o q sofar xs p) (w .2) (c .1) in
+      (r .0, subst (Holding (r .0) o) (append-assoc sofar xs (flat pieces)) (r .1), r .2)
 
   -- the first of the pieces shows that the fork reaches to o
   first-allowed : (xs : List ℕ) (pieces : List (List ℕ)) (events : List Event) (final : Event) (image : List ℕ) (h : History) (o : ℕ)
