@@ -34,22 +34,22 @@ part-v-end : tie.Need-part-v-end
 part-v-end c = le-refl _
 
 be16-at-requires : tie.Need-be16-at-requires
-be16-at-requires c κs = within (c .before .before) 1 tt
+be16-at-requires c κs = within (c .before .before) _ tt
 
 be32-at-requires : tie.Need-be32-at-requires
-be32-at-requires c κs = within (c .before .before .before) 5 tt
+be32-at-requires c κs = within (c .before .before .before) _ tt
 
 be32-at-requires-2 : tie.Need-be32-at-requires-2
-be32-at-requires-2 c κs = within (c .before .before .before .before) 9 tt
+be32-at-requires-2 c κs = within (c .before .before .before .before) _ tt
 
 be16-at-requires-2 : tie.Need-be16-at-requires-2
-be16-at-requires-2 c κs = within (c .before .before .before .before .before) 11 tt
+be16-at-requires-2 c κs = within (c .before .before .before .before .before) _ tt
 
 be16-at-requires-3 : tie.Need-be16-at-requires-3
-be16-at-requires-3 c κs = within (c .before .before .before .before .before .before) 13 tt
+be16-at-requires-3 c κs = within (c .before .before .before .before .before .before) _ tt
 
 be16-at-requires-4 : tie.Need-be16-at-requires-4
-be16-at-requires-4 c κs = within (c .before .before .before .before .before .before .before) 15 tt
+be16-at-requires-4 c κs = within (c .before .before .before .before .before .before .before) _ tt
 
 cast-t12 : tie.Need-cast-t12
 cast-t12 c = search needs
@@ -59,37 +59,37 @@ abbrev start : tie.After-be16-at4 → tie.Start
 start c = c .before .before .before .before .before .before .before .before
 
 be16-at-requires-5 : tie.Need-be16-at-requires-5
-be16-at-requires-5 c κs = within (start c) 17 tt
+be16-at-requires-5 c κs = within (start c) _ tt
 
 be16-at-requires-6 : tie.Need-be16-at-requires-6
-be16-at-requires-6 c κs = within (start (c .before)) 19 tt
+be16-at-requires-6 c κs = within (start (c .before)) _ tt
 
 be32-at-requires-3 : tie.Need-be32-at-requires-3
-be32-at-requires-3 c κs = within (start (c .before .before)) 23 tt
+be32-at-requires-3 c κs = within (start (c .before .before)) _ tt
 
 be32-at-requires-4 : tie.Need-be32-at-requires-4
-be32-at-requires-4 c κs = within (start (c .before .before .before)) 27 tt
+be32-at-requires-4 c κs = within (start (c .before .before .before)) _ tt
 
 be16-at-requires-7 : tie.Need-be16-at-requires-7
-be16-at-requires-7 c κs = within (start (c .before .before .before .before)) 29 tt
+be16-at-requires-7 c κs = within (start (c .before .before .before .before)) _ tt
 
 cast-t19 : tie.Need-cast-t19
 cast-t19 c = search needs
 
 be32-at-requires-5 : tie.Need-be32-at-requires-5
-be32-at-requires-5 c κs = within (start (c .before .before .before .before .before)) 33 tt
+be32-at-requires-5 c κs = within (start (c .before .before .before .before .before)) _ tt
 
 be16-at-requires-8 : tie.Need-be16-at-requires-8
-be16-at-requires-8 c κs = within (start (c .before .before .before .before .before .before)) 35 tt
+be16-at-requires-8 c κs = within (start (c .before .before .before .before .before .before)) _ tt
 
 shared-slice-read-t24 : tie.Need-shared-slice-read-t24
-shared-slice-read-t24 c = within (start (c .before .before .before .before .before .before .before .before)) 36 tt
+shared-slice-read-t24 c = within (start (c .before .before .before .before .before .before .before .before)) _ tt
 
 add-name-at : tie.Need-add-name-at
 add-name-at c = search needs
 
 name-at-requires : tie.Need-name-at-requires
-name-at-requires c κs = within (start (c .before .before .before .before .before .before .before .before)) 63 tt
+name-at-requires c κs = within (start (c .before .before .before .before .before .before .before .before)) _ tt
 
 returns : tie.Need-returns
 unfolding factsOf
