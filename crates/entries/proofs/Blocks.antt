@@ -108,6 +108,29 @@ module _ (m : List ℕ) (base s n z : ℕ) (c : List ℕ) (low : base ≤ s) (fu
       let all = take-all 512 inside (omega (arith, inside-long)) in
       rw (take-paste m s c n (omega arith) enough, z-all, back, all, front) (simp append-assoc)
 
+-- ---- the sizes around an entry: p bytes in front of it, w its own, q behind it, u in all
+
+behind-long : (p w q u : ℕ) → u ≡ p + (w + q) → u - (p + w) ≡ q
+behind-long p w q u h = omega arith
+
+zeros-long : (w u z : ℕ) → u ≤ 512 → z + u ≡ 512 + w → 512 - u + w ≡ z
+zeros-long w u z h k = omega arith
+
+ahead-long : (base p s : ℕ) → s ≡ base + p → s - base ≡ p
+ahead-long base p s h = omega arith
+
+next-place : (base p w s next : ℕ) → s ≡ base + p → next ≡ s + w → base + (p + w) ≡ next
+next-place base p w s next h k = omega arith
+
+moved-long : (base p w q u next : ℕ) → u ≡ p + (w + q) → base + (p + w) ≡ next → base + u - next ≡ q
+moved-long base p w q u next h k = omega arith
+
+moved-short : (base p w q u s n : ℕ) → u ≡ p + (w + q) → u ≤ 512 → s ≡ base + p → n ≡ q → s + n ≤ base + 512
+moved-short base p w q u s n h k l m = omega arith
+
+back-again : (m n : ℕ) → m ≤ n → n - m + m ≡ n
+back-again m n h = omega arith
+
 -- ---- an entry of the block
 
 module _ (image : List ℕ) (base : ℕ) (e : EntryAt) (k : Block image base) (s : Stands image e) (l : Lies image base 1 e) where
@@ -140,31 +163,44 @@ module _ (image : List ℕ) (base : ℕ) (e : EntryAt) (k : Block image base) (s
   pub behind-within : e .start + padded (51 + e .«name_length») ≤ base + readEnd b
   behind-within = omega (arith, start-here, size-here, used-here)
 
-  -- the later entries moved up and zeros behind them
+  -- the later entries moved up, n bytes from place next, and z zeros behind them
+  module _ (next n z : ℕ) (at : base + (length (flat (l .before)) + length (bytesAt image e)) ≡ next) (moved : n ≡ length (flat (l .behind))) (clear : z + (e .start + n) ≡ base + 512) where
+    removed-parts : filled (l .before ++ l .behind) ≡ part base (e .start - base) image ++ (part next n image ++ zeros z)
+    removed-parts =
+        let p = length (flat (l .before)) in
+        let w = length (bytesAt image e) in
+        let q = length (flat (l .behind)) in
+        let ew = end-within image base k in
+        let us = used-here in
+        let sh = start-here in
+        let long : readEnd b - (p + w) ≡ n = behind-long p w q (readEnd b) us ∙ sym moved in
+        let rest : 512 - readEnd b + w ≡ z = zeros-long w (readEnd b) z ew (omega arith) in
+        let ahead : e .start - base ≡ p = ahead-long base p (e .start) sh in
+        let first : take p b ≡ part base p image = take-take p 512 (drop base image) (omega arith) in
+        let second : part (p + w) (readEnd b - (p + w)) b ≡ part next n image
+        = ap (λ (j : ℕ). part (p + w) j b) long ∙ part-part image base 512 (p + w) n (omega arith) ∙ ap (λ (j : ℕ). part j n image) at in
+        removed-bytes b (block-clean image base k) (l .before) (bytesAt image e) (l .behind) split-here ∙ rw (first, second, rest, ahead)
+
+    removed-pastes : paste (paste image (e .start) (drop next image) n) (e .start + n) (zeros z) z ≡ paste image base (filled (l .before ++ l .behind)) 512
+    removed-pastes =
+        let sh = start-here in
+        let room : next + n ≤ length image = omega (arith, used-here, end-within image base k, k .within) in
+        cleared-behind image base (e .start) n z (drop next image) (omega (arith, sh)) (omega arith) (k .within) (omega (arith, length-drop next image))
+        ∙ ap (λ (t : List ℕ). paste image base t 512) (sym removed-parts)
+
   pub removed-stores : (next n z : ℕ) → next ≡ e .start + padded (51 + e .«name_length») → n ≡ base + readEnd b - next → z ≡ base + 512 - (e .start + n)
       → (x y : List ℕ) → x ≡ paste image (e .start) (drop next image) n → y ≡ paste x (e .start + n) (zeros z) z
       → y ≡ paste image base (filled (l .before ++ l .behind)) 512
   removed-stores next n z hn hm hz x y px py =
-      let c = block-clean image base k in
       let p = length (flat (l .before)) in
       let w = length (bytesAt image e) in
-      let sh = start-here in
-      let si = size-here in
-      let us = used-here in
-      let ew = end-within image base k in
-      let kw = k .within in
-      let at : base + (p + w) ≡ next = omega arith in
-      let long : readEnd b - (p + w) ≡ n = omega arith in
-      let rest : 512 - readEnd b + w ≡ z = omega arith in
-      let ahead : e .start - base ≡ p = omega arith in
-      let first : take p b ≡ part base p image = take-take p 512 (drop base image) (omega arith) in
-      let second : part (p + w) (readEnd b - (p + w)) b ≡ part next n image
-      = part-part image base 512 (p + w) (readEnd b - (p + w)) (omega arith) ∙ ap (λ (q : ℕ). part q (readEnd b - (p + w)) image) at ∙ ap (λ (j : ℕ). part next j image) long in
-      let whole : filled (l .before ++ l .behind) ≡ part base (e .start - base) image ++ (part next n image ++ zeros z)
-      = removed-bytes b c (l .before) (bytesAt image e) (l .behind) split-here ∙ rw (first, second, rest, ahead) in
+      let q = length (flat (l .behind)) in
+      let at : base + (p + w) ≡ next = next-place base p w (e .start) next start-here (hn ∙ ap (λ (j : ℕ). e .start + j) (sym size-here)) in
+      let moved : n ≡ q = hm ∙ moved-long base p w q (readEnd b) next used-here at in
+      let clear : z + (e .start + n) ≡ base + 512
+      = ap (λ (j : ℕ). j + (e .start + n)) hz ∙ back-again (e .start + n) (base + 512) (moved-short base p w q (readEnd b) (e .start) n used-here (end-within image base k) start-here moved) in
       py ∙ ap (λ (t : List ℕ). paste t (e .start + n) (zeros z) z) px
-      ∙ cleared-behind image base (e .start) n z (drop next image) (omega arith) (omega arith) (omega arith) (omega (arith, length-drop next image))
-      ∙ ap (λ (t : List ℕ). paste image base t 512) (sym whole)
+      ∙ removed-pastes next n z at moved clear
 
 -- ---- a part stored right behind another
 
