@@ -1,7 +1,9 @@
 -- `take_file` meets its contract. Assumes nothing.
-use Prim.Native.Nat.{_+_, _/_, _≤_}
-use mathlib.Core.Path.{_∙_}
+use Prim.Native.Nat.{ℕ, _+_, _/_, _%_, _≤_, _<_}
+use mathlib.Core.Path.{_≡_, _∙_}
 use native.Mathlib.Omega.{arith}
+use mir.Syntax.{w16}
+use mir.Val.{Fits}
 use Rattle.model.specs.Facts.{A, freeCount}
 use Rattle.model.specs.declared.Fork.the-variants.{Data}
 use Rattle.files.proofs.Forks.{large-block, long-image}
@@ -10,6 +12,31 @@ use Rattle.changes.proofs.Freed.{both-small, resource-runs, delete-bloc
 use borrow.Author.Needs.{needs}
 use Rattle.changes.proofs.taking.take_file.Statement.{statement}
 use Rattle.changes.proofs.taking.take_file.Tie as tie
+
+-- sizes that fit: p free blocks, q and r of the forks
+positive : (n : ℕ) → 512 ≤ n → 0 < n
+positive n h = omega arith
+
+data-fits : (p q r : ℕ) → p + q + r ≤ 640 → Fits w16 q
+data-fits p q r h = omega arith
+
+resource-fits : (p q r : ℕ) → p + q + r ≤ 640 → Fits w16 r
+resource-fits p q r h = omega arith
+
+two-fit : (p q r : ℕ) → p + q + r ≤ 640 → Fits w16 (p + q)
+two-fit p q r h = omega arith
+
+all-fit : (p q r : ℕ) → p + q + r ≤ 640 → Fits w16 (p + q + r)
+all-fit p q r h = omega arith
+
+rest-below : (n : ℕ) → n % 512 ≤ n
+rest-below n = omega arith
+
+still-long : (n m : ℕ) → n ≡ m → 2048 ≤ m → 2048 ≤ n
+still-long n m e h = omega arith
+
+long : (n m : ℕ) → n ≡ m → 2048 ≤ m → 1088 ≤ n
+long n m e h = omega arith
 
 read-fork-requires : tie.Need-read-fork-requires
 read-fork-requires c κs = search needs
@@ -26,16 +53,16 @@ module _ (c : tie.After-read-fork2) where
   small = both-small (start .pre) (c .before .before .read-fork .result) (c .read-fork2 .result) (c .before .before .read-fork .ensures) (c .read-fork2 .ensures)
 
 div-in-data : tie.Need-div-in-data
-div-in-data c = omega (arith, large-block (start (c .before) .pre .readable))
+div-in-data c = positive _ (large-block (start (c .before) .pre .readable))
 
 cast-in-data : tie.Need-cast-in-data
-cast-in-data c = omega (arith, small (c .before))
+cast-in-data c = data-fits _ _ _ (small (c .before))
 
 div-in-resource : tie.Need-div-in-resource
-div-in-resource c = omega (arith, large-block (start (c .before .before) .pre .readable))
+div-in-resource c = positive _ (large-block (start (c .before .before) .pre .readable))
 
 cast-in-resource : tie.Need-cast-in-resource
-cast-in-resource c = omega (arith, small (c .before .before))
+cast-in-resource c = resource-fits _ _ _ (small (c .before .before))
 
 free-chain-requires : tie.Need-free-chain-requires
 free-chain-requires c κs =
@@ -50,12 +77,12 @@ free-chain-requires-2 c κs =
     let a = b .before .before in
     let s = start b in (
       few (s .pre),
-      omega (arith, x .free-chain .kept .0, long-image (s .pre .readable)),
+      still-long _ _ (x .free-chain .kept .0) (long-image (s .pre .readable)),
       resource-runs (s .pre) (a .read-fork .result) (b .read-fork2 .result) (a .read-fork .ensures) (b .read-fork2 .ensures) _ (x .free-chain .ensures),
     )
 
 sub-base : tie.Need-sub-base
-sub-base c = search needs
+sub-base c = rest-below _
 
 remove-entry-requires : tie.Need-remove-entry-requires
 remove-entry-requires c κs =
@@ -76,7 +103,7 @@ remove-entry-requires c κs =
 sub-put-files : tie.Need-sub-put-files
 sub-put-files c =
     let y = c .before .before .before .before .before .before .before .before .before .before in
-    omega (arith, some-file (start (y .before .before .before .before .before .before .before .before) .pre))
+    some-file (start (y .before .before .before .before .before .before .before .before) .pre)
 
 put-files-requires : tie.Need-put-files-requires
 put-files-requires c κs =
@@ -84,7 +111,7 @@ put-files-requires c κs =
     let y = z .before .before .before .before .before .before in
     let x = y .before .before .before .before in
     let s = start (x .before .before .before .before) in
-    omega (arith, z .remove-entry .kept .0, y .free-chain2 .kept .0, x .free-chain .kept .0, long-image (s .pre .readable))
+    long _ _ (z .remove-entry .kept .0 ∙ y .free-chain2 .kept .0 ∙ x .free-chain .kept .0) (long-image (s .pre .readable))
 
 -- at the last store
 module _ (c : tie.After-struct-known6) where
@@ -104,21 +131,15 @@ module _ (c : tie.After-struct-known6) where
   forks = first .before .before .before .before
 
 add-put-free : tie.Need-add-put-free
-add-put-free c = omega (arith, small (forks c))
+add-put-free c = two-fit _ _ _ (small (forks c))
 
 add-put-free-2 : tie.Need-add-put-free-2
-add-put-free-2 c = omega (arith, small (forks c))
+add-put-free-2 c = all-fit _ _ _ (small (forks c))
 
 put-free-requires : tie.Need-put-free-requires
 put-free-requires c κs =
-    omega (
-      arith,
-      files c .put-files .kept .0,
-      taken c .remove-entry .kept .0,
-      second c .free-chain2 .kept .0,
-      first c .free-chain .kept .0,
-      long-image (start (forks c) .pre .readable),
-    )
+    long _ _ (files c .put-files .kept .0 ∙ taken c .remove-entry .kept .0 ∙ second c .free-chain2 .kept .0 ∙ first c .free-chain .kept .0)
+    (long-image (start (forks c) .pre .readable))
 
 same-length : tie.Need-same-length
 same-length c =
