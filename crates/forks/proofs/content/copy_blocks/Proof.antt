@@ -1,10 +1,13 @@
 -- `copy_blocks` meets its contract. The invariant: the first `done` bytes are copied, and the next stands at place `within` of
 -- block b. Assumes nothing.
-use Prim.Native.Nat.{ℕ, _+_, _-_, _%_, _≤_, _<_}
+use Prim.Native.Nat.{ℕ, _+_, _-_, _*_, _/_, _%_, _≤_, _<_, min}
 use mathlib.Core.Path.{_≡_, ap, _∙_}
 use mathlib.Core.List.{List, _++_}
 use native.Mathlib.Omega.{arith}
-use native.Mathlib.Nat.{mod-lt}
+use native.Mathlib.Nat.{mod-lt, le-of-lt}
+use mir.Syntax.{w16, w64}
+use mir.Val.{Fits}
+use mir.Facts.{fits-le}
 use denote.Ref.{now}
 use lib.ListN.{length, take, drop}
 use lib.Seq.{paste}
@@ -21,28 +24,86 @@ Inv-loop image start size offset count buffer₀ a b₀ within₀ done₀ buffer
 abbrev μ-loop : tie.MeasureT-loop
 μ-loop image start size offset count buffer₀ a b₀ within₀ done₀ buffer b within done = count - done
 
+-- ---- numbers
+
+positive : (n : ℕ) → 512 ≤ n → 0 < n
+positive n h = omega arith
+
+place-fits : (n : ℕ) → n < 640 → Fits w16 n
+place-fits n h = omega arith
+
+before : (i n l : ℕ) → 1 ≤ n → i + n ≤ l → i < l
+before i n l h k = omega arith
+
+long : (s n m : ℕ) → 2048 ≤ s → s + n ≤ m → 2048 ≤ m
+long s n m h k = omega arith
+
+multiple : (a : ℕ) → a / 512 * 512 ≡ a → a % 512 ≡ 0
+multiple a h = omega arith
+
+-- r bytes in a turn, at place w of a bytes, where d of n are done
+module _ (r a w n d : ℕ) (is : r ≡ min (a - w) (n - d)) (here : w < a) (more : d < n) where
+  turn-in-block : w + r ≤ a
+  turn-in-block = omega arith
+
+  turn-in-count : d + r ≤ n
+  turn-in-count = omega arith
+
+  turn-less : n - (d + r) < n - d
+  turn-less = omega arith
+
+  turn-whole : d + r < n → w + r ≡ a
+  turn-whole h = omega arith
+
+from-fits : (f b w a m : ℕ) → f ≡ b → b + a ≤ m → w < a → m < 18446744073709551616 → Fits w64 (f + w)
+from-fits f b w a m e h k l = omega arith
+
+from-within : (f b w n a m : ℕ) → f ≡ b → b + a ≤ m → w + n ≤ a → f + w + n ≤ m
+from-within f b w n a m e h k = omega arith
+
+to-within : (d n m l : ℕ) → d ≤ n → l ≡ m → n ≤ m → d ≤ l
+to-within d n m l h e k = omega arith
+
+all-done : (d n : ℕ) → d ≤ n → n ≤ d → d ≡ n
+all-done d n h k = omega arith
+
+-- ---- at the start
+
+module _ (s : tie.Start Inv-loop μ-loop) where
+  size-positive : 0 < s .args .size
+  size-positive = positive _ (s .pre .0 .block)
+
+  before-end : s .args .offset < s .args .g .logical
+  before-end = before _ _ _ (s .pre .1) (s .pre .2)
+
+  image-long : 2048 ≤ length (now (s .args .image))
+  image-long = long _ _ _ (s .pre .0 .low) (s .pre .0 .room)
+
+  image-few : length (now (s .args .image)) < 18446744073709551616
+  image-few = omega (arith, s .good)
+
 div-block-at : tie.Need-div-block-at Inv-loop μ-loop
-div-block-at c = omega arith
+div-block-at c = size-positive (c .before .before)
 
 cast-block-at : tie.Need-cast-block-at Inv-loop μ-loop
 cast-block-at c =
     let a = c .before .before .args in
-    omega (arith, place-small (now (a .image)) (a .start .0) (a .size) (a .g) (c .before .before .pre .0) (a .offset) (omega arith))
+    place-fits _ (place-small (now (a .image)) (a .start .0) (a .size) (a .g) (c .before .before .pre .0) (a .offset) (before-end (c .before .before)))
 
 block-at-requires : tie.Need-block-at-requires Inv-loop μ-loop
 block-at-requires c κs =
     let a = c .before .before .args in
-    (has-place (now (a .image)) (a .start .0) (a .size) (a .g) (c .before .before .pre .0) (a .offset) (omega arith), omega arith)
+    (has-place (now (a .image)) (a .start .0) (a .size) (a .g) (c .before .before .pre .0) (a .offset) (before-end (c .before .before)), image-long (c .before .before))
 
 rem-within : tie.Need-rem-within Inv-loop μ-loop
-rem-within c = omega arith
+rem-within c = size-positive (c .before .before .before)
 
 loop-holds : tie.Need-loop-holds Inv-loop μ-loop
 loop-holds c =
-    let a = c .before .before .before .args in
-    let pos : 0 < a .size = omega arith in
+    let f = c .before .before .before in
+    let a = f .args in
     midway-first (now (a .image)) (a .start .0) (a .size) (a .count) (c .block-at .result .0) (a .offset % a .size) (a .buffer .now)
-    (omega arith) (mod-lt (a .offset) pos)
+    (f .pre .1) (mod-lt (a .offset) (size-positive f))
 
 -- ---- in the loop
 
@@ -58,14 +119,14 @@ enough : (c : tie.At-loop Inv-loop μ-loop) → entry c .args .count ≤ length 
 enough c =
     let f = entry c in
     let a = f .args in
-    fork-enough (now (a .image)) (a .start .0) (a .size) (a .g) (f .pre .0) (a .offset) (a .count) (omega arith)
+    fork-enough (now (a .image)) (a .start .0) (a .size) (a .g) (f .pre .0) (a .offset) (a .count) (f .pre .2)
 
 begins : (c : tie.At-loop Inv-loop μ-loop) → let a = entry c .args in
     Onward (now (a .image)) (a .start .0) (a .size) (due c) (c .before .block-at .result .0) (a .offset % a .size)
 begins c =
     let f = entry c in
     let a = f .args in
-    fork-onward (now (a .image)) (a .start .0) (a .size) (a .g) (f .pre .0) (a .offset) (omega arith) (c .before .block-at .result .0) (c .before .block-at .ensures)
+    fork-onward (now (a .image)) (a .start .0) (a .size) (a .g) (f .pre .0) (a .offset) (before-end f) (c .before .block-at .result .0) (c .before .block-at .ensures)
 
 goes-on : (c : tie.At-loop Inv-loop μ-loop) → let a = entry c .args in
     Onward (now (a .image)) (a .start .0) (a .size) (drop (c .loop .done) (due c)) (c .loop .b .0) (c .loop .within)
@@ -83,10 +144,10 @@ lies c =
     onward-lies (now (a .image)) (a .start .0) (a .size) (drop (c .loop .done) (due c)) (c .loop .b .0) (c .loop .within) (goes-on c)
 
 sub-smaller : tie.Need-sub-smaller Inv-loop μ-loop
-sub-smaller c = omega (arith, c .loop .inv .here)
+sub-smaller c = le-of-lt (c .loop .inv .here)
 
 sub-smaller-2 : tie.Need-sub-smaller-2 Inv-loop μ-loop
-sub-smaller-2 c = omega (arith, c .loop .inv .more)
+sub-smaller-2 c = le-of-lt (c .loop .inv .more)
 
 smaller-requires : tie.Need-smaller-requires Inv-loop μ-loop
 smaller-requires c κs = tt
@@ -95,7 +156,7 @@ logical-requires : tie.Need-logical-requires Inv-loop μ-loop
 logical-requires c κs =
     let h = entry (c .before) .pre .0 in
     let b = block (c .before) in
-    omega (arith, h .whole, h .most, h .start)
+    (b .0, b .1, h .most, multiple _ (h .whole), h .start)
 
 byte-requires : tie.Need-byte-requires Inv-loop μ-loop
 byte-requires c κs = tt
@@ -110,28 +171,27 @@ number c = c .before .before .smaller .result
 
 in-block : (c : tie.After-byte Inv-loop μ-loop) → let l = c .before .before .before in
     l .loop .within + number c ≤ entry l .args .size
-in-block c = let m = c .before .before .before .loop .inv in omega (arith, c .before .before .smaller .ensures, m .here)
+in-block c = let m = c .before .before .before .loop .inv in turn-in-block _ _ _ _ _ (c .before .before .smaller .ensures) (m .here) (m .more)
 
 in-count : (c : tie.After-byte Inv-loop μ-loop) → let l = c .before .before .before in
     l .loop .done + number c ≤ entry l .args .count
-in-count c = let m = c .before .before .before .loop .inv in omega (arith, c .before .before .smaller .ensures, m .more)
+in-count c = let m = c .before .before .before .loop .inv in turn-in-count _ _ _ _ _ (c .before .before .smaller .ensures) (m .here) (m .more)
 
 add-from : tie.Need-add-from Inv-loop μ-loop
 add-from c =
     let l = c .before .before .before in
-    let m = l .loop .inv in
-    omega (arith, from-block c, lies l, m .here, entry l .good)
+    from-fits _ _ _ _ _ (from-block c) (lies l) (l .loop .inv .here) (image-few (entry l))
 
 copy-part-requires : tie.Need-copy-part-requires Inv-loop μ-loop
 copy-part-requires c κs =
     let l = c .before .before .before .before in
     let m = l .loop .inv in
-    (omega (arith, from-block (c .before), lies l, in-block (c .before)), omega (arith, in-count (c .before), m .size, entry l .pre))
+    (from-within _ _ _ _ _ _ (from-block (c .before)) (lies l) (in-block (c .before)), to-within _ _ _ _ (in-count (c .before)) (m .size) (entry l .pre .3))
 
 add-done : tie.Need-add-done Inv-loop μ-loop
 add-done c =
     let y = c .before .before .before .before in
-    omega (arith, in-count y, entry (y .before .before .before) .fits)
+    fits-le (in-count y) (entry (y .before .before .before) .fits .count)
 
 -- ---- after the copy
 
@@ -155,7 +215,7 @@ returns c =
     let f = entry l in
     let a = f .args in
     let xs = due l in
-    let end : l .loop .done + number y ≡ a .count = omega (arith, in-count y, c .if1 .taken) in
+    let end : l .loop .done + number y ≡ a .count = all-done _ _ (in-count y) (c .if1 .taken) in
     stored k
     ∙ midway-copied (now (a .image)) (a .start .0) (a .size) (a .count) (l .before .block-at .result .0) (a .offset % a .size) (a .buffer .now)
     (l .loop .b .0) (l .loop .within) (l .loop .done) (l .loop .buffer) (l .loop .inv) (f .pre .3) (number y) (in-block y) (in-count y) xs (begins l) (enough l)
@@ -166,14 +226,13 @@ load-requires : tie.Need-load-requires Inv-loop μ-loop
 load-requires c κs =
     let l = c .before .before .before .before .before .before .before .before in
     let b = block l in
-    let f = entry l in
-    (b .0, b .1, omega (arith, f .pre .0 .low, f .pre .0 .room))
+    (b .0, b .1, image-long (entry l))
 
 loop-less : tie.Need-loop-less Inv-loop μ-loop
 loop-less c =
     let y = c .before .before .before .before .before .before in
     let m = y .before .before .before .loop .inv in
-    omega (arith, y .before .before .smaller .ensures, m .here, m .more)
+    turn-less _ _ _ _ _ (y .before .before .smaller .ensures) (m .here) (m .more)
 
 loop-again : tie.Need-loop-again Inv-loop μ-loop
 loop-again c =
@@ -182,7 +241,8 @@ loop-again c =
     let l = y .before .before .before in
     let f = entry l in
     let a = f .args in
-    let end : l .loop .within + number y ≡ a .size = omega (arith, y .before .before .smaller .ensures, c .before .if1 .left, l .loop .inv .here) in
+    let end : l .loop .within + number y ≡ a .size =
+    turn-whole _ _ _ _ _ (y .before .before .smaller .ensures) (l .loop .inv .here) (l .loop .inv .more) (c .before .if1 .left) in
     midway-next (now (a .image)) (a .start .0) (a .size) (a .count) (l .before .block-at .result .0) (a .offset % a .size) (a .buffer .now)
     (l .loop .b .0) (l .loop .within) (l .loop .done) (l .loop .buffer) (l .loop .inv) (f .pre .3) (number y) (c .load .result) (k .copy-part .last .1 .1 .0) end
     (c .before .if1 .left) (k .copy-part .kept .1 .1 .0) (stored k) (c .load .ensures .0)
