@@ -1,11 +1,13 @@
 -- Laws of the copying of a fork's bytes, block by block, and that an accepted image's forks can be copied.
-use Prim.Native.Nat.{ℕ, zero, suc, _+_, _-_, _*_, _/_, _%_, _≤_, _<_}
+use Prim.Native.Nat.{ℕ, zero, suc, _+_, _-_, _*_, _/_, _%_, _≤_, _<_, min}
 use mathlib.Core.Path.{_≡_, refl, sym, ap, subst, _∙_}
 use mathlib.Core.Bool.{true}
 use mathlib.Core.List.{List, [], _∷_, _++_}
 use native.Mathlib.Omega.{arith}
 use native.Mathlib.Nat.{mul-le-mul-right, div-add-mod', div-lt-iff-lt-mul}
 use native.Mathlib.Numerals.{add-one}
+use mir.Syntax.{w16, w64}
+use mir.Val.{Fits}
 use lib.ListN.{length, getD, set, take, drop, length-drop}
 use lib.Seq.{paste, paste-suc, getD-drop, take-at, take-add, drop-drop, take-append-le, drop-append-le, drop-append-add, length-take-le}
 use Rattle.model.specs.Bytes.{byte, part}
@@ -269,3 +271,46 @@ copyable image acc i l fork =
       room = r .room;
       good = fork-good (mapEntry image) (N f) (A f) (forkOf fork (getD (directory image) i [])) (sound-fork image acc i l fork);
     }
+
+-- ---- the numbers of a turn, where bytes are copied and where they are stored
+
+pub positive : (n : ℕ) → 512 ≤ n → 0 < n
+positive n h = omega arith
+
+pub place-fits : (n : ℕ) → n < 640 → Fits w16 n
+place-fits n h = omega arith
+
+pub before-all : (i n l : ℕ) → 1 ≤ n → i + n ≤ l → i < l
+before-all i n l h k = omega arith
+
+pub long : (s n m : ℕ) → 2048 ≤ s → s + n ≤ m → 2048 ≤ m
+long s n m h k = omega arith
+
+pub multiple : (a : ℕ) → a / 512 * 512 ≡ a → a % 512 ≡ 0
+multiple a h = omega arith
+
+-- r bytes in a turn, at place w of a bytes, where d of n are done
+module _ (r a w n d : ℕ) (is : r ≡ min (a - w) (n - d)) (here : w < a) (more : d < n) where
+  pub turn-in-block : w + r ≤ a
+  turn-in-block = omega arith
+
+  pub turn-in-count : d + r ≤ n
+  turn-in-count = omega arith
+
+  pub turn-less : n - (d + r) < n - d
+  turn-less = omega arith
+
+  pub turn-whole : d + r < n → w + r ≡ a
+  turn-whole h = omega arith
+
+pub from-fits : (f b w a m : ℕ) → f ≡ b → b + a ≤ m → w < a → m < 18446744073709551616 → Fits w64 (f + w)
+from-fits f b w a m e h k l = omega arith
+
+pub from-within : (f b w n a m : ℕ) → f ≡ b → b + a ≤ m → w + n ≤ a → f + w + n ≤ m
+from-within f b w n a m e h k = omega arith
+
+pub to-within : (d n m l : ℕ) → d ≤ n → l ≡ m → n ≤ m → d ≤ l
+to-within d n m l h e k = omega arith
+
+pub all-done : (d n : ℕ) → d ≤ n → n ≤ d → d ≡ n
+all-done d n h k = omega arith

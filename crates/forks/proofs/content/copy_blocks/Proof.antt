@@ -1,12 +1,10 @@
 -- `copy_blocks` meets its contract. The invariant: the first `done` bytes are copied, and the next stands at place `within` of
 -- block b. Assumes nothing.
-use Prim.Native.Nat.{ℕ, _+_, _-_, _*_, _/_, _%_, _≤_, _<_, min}
+use Prim.Native.Nat.{ℕ, _+_, _-_, _%_, _≤_, _<_}
 use mathlib.Core.Path.{_≡_, ap, _∙_}
 use mathlib.Core.List.{List, _++_}
 use native.Mathlib.Omega.{arith}
 use native.Mathlib.Nat.{mod-lt, le-of-lt}
-use mir.Syntax.{w16, w64}
-use mir.Val.{Fits}
 use mir.Facts.{fits-le}
 use denote.Ref.{now}
 use lib.ListN.{length, take, drop}
@@ -14,6 +12,7 @@ use lib.Seq.{paste}
 use Rattle.model.specs.Facts.{blockByte}
 use Rattle.forks.proofs.Copying.{Onward, onward-block, onward-lies, Midway, midway-first, midway-copied, midway-next, bytesFrom}
 use Rattle.forks.proofs.Copying.{fork-enough, fork-part, place-small, has-place, fork-onward}
+use Rattle.forks.proofs.Copying.{positive, place-fits, long, multiple, turn-in-block, turn-in-count, turn-less, turn-whole, from-fits, from-within, all-done, before-all, to-within}
 use Rattle.forks.proofs.content.copy_blocks.Statement.{statement}
 use Rattle.forks.proofs.content.copy_blocks.Tie as tie
 
@@ -24,49 +23,6 @@ Inv-loop image start size offset count buffer₀ a b₀ within₀ done₀ buffer
 abbrev μ-loop : tie.MeasureT-loop
 μ-loop image start size offset count buffer₀ a b₀ within₀ done₀ buffer b within done = count - done
 
--- ---- numbers
-
-positive : (n : ℕ) → 512 ≤ n → 0 < n
-positive n h = omega arith
-
-place-fits : (n : ℕ) → n < 640 → Fits w16 n
-place-fits n h = omega arith
-
-before : (i n l : ℕ) → 1 ≤ n → i + n ≤ l → i < l
-before i n l h k = omega arith
-
-long : (s n m : ℕ) → 2048 ≤ s → s + n ≤ m → 2048 ≤ m
-long s n m h k = omega arith
-
-multiple : (a : ℕ) → a / 512 * 512 ≡ a → a % 512 ≡ 0
-multiple a h = omega arith
-
--- r bytes in a turn, at place w of a bytes, where d of n are done
-module _ (r a w n d : ℕ) (is : r ≡ min (a - w) (n - d)) (here : w < a) (more : d < n) where
-  turn-in-block : w + r ≤ a
-  turn-in-block = omega arith
-
-  turn-in-count : d + r ≤ n
-  turn-in-count = omega arith
-
-  turn-less : n - (d + r) < n - d
-  turn-less = omega arith
-
-  turn-whole : d + r < n → w + r ≡ a
-  turn-whole h = omega arith
-
-from-fits : (f b w a m : ℕ) → f ≡ b → b + a ≤ m → w < a → m < 18446744073709551616 → Fits w64 (f + w)
-from-fits f b w a m e h k l = omega arith
-
-from-within : (f b w n a m : ℕ) → f ≡ b → b + a ≤ m → w + n ≤ a → f + w + n ≤ m
-from-within f b w n a m e h k = omega arith
-
-to-within : (d n m l : ℕ) → d ≤ n → l ≡ m → n ≤ m → d ≤ l
-to-within d n m l h e k = omega arith
-
-all-done : (d n : ℕ) → d ≤ n → n ≤ d → d ≡ n
-all-done d n h k = omega arith
-
 -- ---- at the start
 
 module _ (s : tie.Start Inv-loop μ-loop) where
@@ -74,7 +30,7 @@ module _ (s : tie.Start Inv-loop μ-loop) where
   size-positive = positive _ (s .pre .0 .block)
 
   before-end : s .args .offset < s .args .g .logical
-  before-end = before _ _ _ (s .pre .1) (s .pre .2)
+  before-end = before-all _ _ _ (s .pre .1) (s .pre .2)
 
   image-long : 2048 ≤ length (now (s .args .image))
   image-long = long _ _ _ (s .pre .0 .low) (s .pre .0 .room)

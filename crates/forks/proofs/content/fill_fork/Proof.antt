@@ -4,7 +4,10 @@ use Prim.Native.Nat.{ℕ, _+_, _-_, _%_, _≤_, _<_}
 use mathlib.Core.Path.{_≡_, ap, _∙_}
 use mathlib.Core.List.{List}
 use native.Mathlib.Omega.{arith}
-use native.Mathlib.Nat.{mod-lt}
+use native.Mathlib.Nat.{mod-lt, le-of-lt}
+use mir.Syntax.{w64}
+use mir.Val.{Fits}
+use mir.Facts.{fits-le}
 use denote.Ref.{now}
 use lib.ListN.{length, drop}
 use lib.Seq.{paste}
@@ -13,6 +16,7 @@ use Rattle.model.specs.Map.{mapEntry, chainBlocks}
 use Rattle.model.specs.Calls.{putContent}
 use Rattle.forks.proofs.Filling.{Due, due-block, due-lies, Partway, partway-first, partway-last, partway-next}
 use Rattle.forks.proofs.Filling.{fill-none, fill-small, fill-place, fill-due}
+use Rattle.forks.proofs.Copying.{positive, place-fits, long, multiple, turn-in-block, turn-in-count, turn-less, turn-whole, from-fits, from-within, all-done}
 use Rattle.forks.proofs.content.fill_fork.Statement.{statement}
 use Rattle.forks.proofs.content.fill_fork.Tie as tie
 
@@ -22,6 +26,27 @@ Inv-loop image₀ start size blocks offset bytes count a block₀ at₀ stored�
 
 abbrev μ-loop : tie.MeasureT-loop
 μ-loop image₀ start size blocks offset bytes count a block₀ at₀ stored₀ image block at stored = count - stored
+
+-- the image keeps its length
+still-within : (i n m : ℕ) → i ≤ n → n ≡ m → i ≤ m
+still-within i n m h e = omega arith
+
+same-long : (n m : ℕ) → n ≡ m → 2048 ≤ m → 2048 ≤ n
+same-long n m e h = omega arith
+
+-- what is known at the start
+module _ (s : tie.Start Inv-loop μ-loop) where
+  size-positive : 0 < s .args .size
+  size-positive = positive _ (s .pre .0 .block)
+
+  image-long : 2048 ≤ length (now (s .args .image))
+  image-long = long _ _ _ (s .pre .0 .low) (s .pre .0 .room)
+
+  image-few : length (now (s .args .image)) < 18446744073709551616
+  image-few = omega (arith, s .good)
+
+  bytes-few : Fits w64 (length (now (s .args .bytes)))
+  bytes-few = omega (arith, s .good)
 
 -- no bytes
 returns : tie.Need-returns Inv-loop μ-loop
@@ -33,7 +58,7 @@ returns c =
 -- ---- before the loop
 
 div-block-at : tie.Need-div-block-at Inv-loop μ-loop
-div-block-at c = omega (arith, c .before .before .before .before .pre .0 .block)
+div-block-at c = size-positive (c .before .before .before .before)
 
 some : (c : tie.Else1 Inv-loop μ-loop) → 1 ≤ length (now (c .before .before .before .args .bytes))
 some c = omega (arith, c .if1 .left)
@@ -42,25 +67,24 @@ cast-block-at : tie.Need-cast-block-at Inv-loop μ-loop
 cast-block-at c =
     let f = c .before .before .before .before in
     let a = f .args in
-    omega (arith, fill-small (now (a .image)) (a .start .0) (a .size) (a .first .0) (a .blocks) (f .pre .0) (a .offset) (now (a .bytes)) (f .pre .1) (some (c .before)))
+    place-fits _ (fill-small (now (a .image)) (a .start .0) (a .size) (a .first .0) (a .blocks) (f .pre .0) (a .offset) (now (a .bytes)) (f .pre .1) (some (c .before)))
 
 block-at-requires : tie.Need-block-at-requires Inv-loop μ-loop
 block-at-requires c κs =
     let f = c .before .before .before .before in
     let a = f .args in (
       fill-place (now (a .image)) (a .start .0) (a .size) (a .first .0) (a .blocks) (f .pre .0) (a .offset) (now (a .bytes)) (f .pre .1) (some (c .before)),
-      omega (arith, f .pre .0 .low, f .pre .0 .room),
+      image-long f,
     )
 
 rem-at : tie.Need-rem-at Inv-loop μ-loop
-rem-at c = omega (arith, c .before .before .before .before .before .pre .0 .block)
+rem-at c = size-positive (c .before .before .before .before .before)
 
 loop-holds : tie.Need-loop-holds Inv-loop μ-loop
 loop-holds c =
     let f = c .before .before .before .before .before in
     let a = f .args in
-    let pos : 0 < a .size = omega (arith, f .pre .0 .block) in
-    partway-first (now (a .image)) (a .start .0) (a .size) (now (a .bytes)) (c .block-at .result .0) (a .offset % a .size) (some (c .before .before)) (mod-lt (a .offset) pos)
+    partway-first (now (a .image)) (a .start .0) (a .size) (now (a .bytes)) (c .block-at .result .0) (a .offset % a .size) (some (c .before .before)) (mod-lt (a .offset) (size-positive f))
 
 -- ---- in the loop
 
@@ -94,10 +118,10 @@ lies c =
     due-lies (now (a .image)) (a .start .0) (a .size) (c .loop .image) (c .loop .block .0) (c .loop .at) (drop (c .loop .stored) (now (a .bytes))) (filled c) (goes-on c)
 
 sub-smaller : tie.Need-sub-smaller Inv-loop μ-loop
-sub-smaller c = omega (arith, c .loop .inv .here)
+sub-smaller c = le-of-lt (c .loop .inv .here)
 
 sub-smaller-2 : tie.Need-sub-smaller-2 Inv-loop μ-loop
-sub-smaller-2 c = omega (arith, c .loop .inv .more)
+sub-smaller-2 c = le-of-lt (c .loop .inv .more)
 
 smaller-requires : tie.Need-smaller-requires Inv-loop μ-loop
 smaller-requires c κs = tt
@@ -106,7 +130,7 @@ logical-requires : tie.Need-logical-requires Inv-loop μ-loop
 logical-requires c κs =
     let h = c .before .before .before .before .before .before .before .pre .0 in
     let b = numbered (c .before) in
-    omega (arith, h .whole, h .most, h .start)
+    (b .0, b .1, h .most, multiple _ (h .whole), h .start)
 
 byte-requires : tie.Need-byte-requires Inv-loop μ-loop
 byte-requires c κs = tt
@@ -121,28 +145,29 @@ number c = c .before .before .smaller .result
 
 in-block : (c : tie.After-byte Inv-loop μ-loop) → let l = c .before .before .before in
     l .loop .at + number c ≤ l .before .before .before .before .before .before .args .size
-in-block c = let m = c .before .before .before .loop .inv in omega (arith, c .before .before .smaller .ensures, m .here)
+in-block c = let m = c .before .before .before .loop .inv in turn-in-block _ _ _ _ _ (c .before .before .smaller .ensures) (m .here) (m .more)
 
 in-count : (c : tie.After-byte Inv-loop μ-loop) → let l = c .before .before .before in
     l .loop .stored + number c ≤ length (now (l .before .before .before .before .before .before .args .bytes))
-in-count c = let m = c .before .before .before .loop .inv in omega (arith, c .before .before .smaller .ensures, m .more)
+in-count c = let m = c .before .before .before .loop .inv in turn-in-count _ _ _ _ _ (c .before .before .smaller .ensures) (m .here) (m .more)
 
 add-to : tie.Need-add-to Inv-loop μ-loop
 add-to c =
     let l = c .before .before .before in
     let m = l .loop .inv in
-    omega (arith, to-block c, lies l, m .here, m .size, l .before .before .before .before .before .before .good)
+    let f = l .before .before .before .before .before .before in
+    from-fits _ _ _ _ _ (to-block c) (still-within _ _ _ (lies l) (m .size)) (m .here) (image-few f)
 
 copy-part-requires : tie.Need-copy-part-requires Inv-loop μ-loop
 copy-part-requires c κs =
     let y = c .before in
     let l = y .before .before .before in
-    (in-count y, omega (arith, to-block y, lies l, in-block y))
+    (in-count y, from-within _ _ _ _ _ _ (to-block y) (lies l) (in-block y))
 
 add-stored : tie.Need-add-stored Inv-loop μ-loop
 add-stored c =
     let y = c .before .before .before .before in
-    omega (arith, in-count y, y .before .before .before .before .before .before .before .before .before .good)
+    fits-le (in-count y) (bytes-few (y .before .before .before .before .before .before .before .before .before))
 
 -- ---- after the store
 
@@ -164,7 +189,7 @@ returns-2 c =
     let y = k .before .before in
     let l = y .before .before .before in
     let a = l .before .before .before .before .before .before .args in
-    let end : l .loop .stored + number y ≡ length (now (a .bytes)) = omega (arith, in-count y, c .if2 .taken) in
+    let end : l .loop .stored + number y ≡ length (now (a .bytes)) = all-done _ _ (in-count y) (c .if2 .taken) in
     after k
     ∙ partway-last (now (a .image)) (a .start .0) (a .size) (now (a .bytes)) (l .before .block-at .result .0) (a .offset % a .size) (l .loop .block .0) (l .loop .at) (l .loop .stored)
     (l .loop .image) (l .loop .inv) (number y) (in-block y) end (filled l) (begins l)
@@ -174,14 +199,13 @@ load-requires c κs =
     let k = c .before .before .before .before in
     let l = k .before .before .before .before .before in
     let b = numbered l in
-    let h = l .before .before .before .before .before .before .pre .0 in
-    (b .0, b .1, omega (arith, h .low, h .room, l .loop .inv .size, k .copy-part .kept .1 .1 .0))
+    (b .0, b .1, same-long _ _ (k .copy-part .kept .1 .1 .0 ∙ l .loop .inv .size) (image-long (l .before .before .before .before .before .before)))
 
 loop-less : tie.Need-loop-less Inv-loop μ-loop
 loop-less c =
     let y = c .before .before .before .before .before .before .before in
     let m = y .before .before .before .loop .inv in
-    omega (arith, y .before .before .smaller .ensures, m .here, m .more)
+    turn-less _ _ _ _ _ (y .before .before .smaller .ensures) (m .here) (m .more)
 
 loop-again : tie.Need-loop-again Inv-loop μ-loop
 loop-again c =
@@ -189,7 +213,8 @@ loop-again c =
     let y = k .before .before in
     let l = y .before .before .before in
     let a = l .before .before .before .before .before .before .args in
-    let end : l .loop .at + number y ≡ a .size = omega (arith, y .before .before .smaller .ensures, c .before .before .if2 .left, l .loop .inv .here) in
+    let end : l .loop .at + number y ≡ a .size =
+    turn-whole _ _ _ _ _ (y .before .before .smaller .ensures) (l .loop .inv .here) (l .loop .inv .more) (c .before .before .if2 .left) in
     partway-next (now (a .image)) (a .start .0) (a .size) (now (a .bytes)) (l .before .block-at .result .0) (a .offset % a .size) (l .loop .block .0) (l .loop .at) (l .loop .stored)
     (l .loop .image) (l .loop .inv) (number y) (c .load .result) (k .copy-part .last .1 .1 .0) end (c .before .before .if2 .left) (k .copy-part .kept .1 .1 .0) (after k) (c .load .ensures .0)
 
