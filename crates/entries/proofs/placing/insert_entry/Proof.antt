@@ -5,7 +5,7 @@ use mathlib.Core.List.{List}
 use native.Mathlib.Omega.{arith}
 use native.Mathlib.Nat.{le-refl}
 use lib.Dec.{lit≤}
-use mir.Syntax.{w64}
+use mir.Syntax.{w8, w64}
 use mir.Val.{Fits}
 use denote.Ref.{now}
 use lib.ListN.{length, set, length-set}
@@ -132,8 +132,11 @@ add-put32-at-3 c = place (after-created (c .before .before .before)) 46 (lit≤ 
 put32-at-requires-3 : tie.Need-put32-at-requires-3
 put32-at-requires-3 c κs = inside (after-created (c .before .before .before)) 46 4 (fixed 46 4 _ (lit≤ tt))
 
+title-fits : (l : ℕ) → l ≤ 255 → Fits w8 l
+title-fits l h = omega arith
+
 cast-image : tie.Need-cast-image
-cast-image c = search needs
+cast-image c = title-fits _ (c .before .before .before .before .before .before .before .before .before .before .before .before .before .before .before .before .before .before .before .before .before .before .before .before .before .before .before .pre .1 .2)
 
 add-image : tie.Need-add-image
 add-image c = place (after-changed (c .before .before)) 50 (lit≤ tt)
