@@ -1,10 +1,6 @@
-// The allocation block map of an image: the checks over its entries, chains and the forks that claim them.
-mod chain;
+// The allocation block map of an image: its entries sorted, and the checks over all of them.
 mod scan;
 
-pub use chain::block_at;
-pub use chain::claim_fork;
-pub use chain::walk;
 pub use scan::any_bad;
 pub use scan::owned_and_free;
 pub use scan::sort_value;

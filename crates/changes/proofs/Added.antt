@@ -20,10 +20,10 @@ use Rattle.laws.proofs.DirectorySteps.{clean-now}
 use Rattle.history.proofs.Joined.{readable-of}
 use Rattle.directory.specs.Cursor.{Begins}
 use Rattle.entries.specs.Blocks.{Block}
-use Rattle.entries.specs.Rooms.{HasRoom}
+use Rattle.placing.specs.Rooms.{HasRoom}
 use Rattle.directory.proofs.Steps.{blocks-rest}
 use Rattle.entries.proofs.Located.{cut-at}
-use Rattle.entries.proofs.Rooming.{block-of, room-placed}
+use Rattle.placing.proofs.Rooming.{block-of, room-placed}
 use Rattle.model.specs.declared.VolumeFacts.{VolumeFacts}
 use Rattle.directory.specs.declared.Cursor.{Cursor}
 use Rattle.changes.specs.Adding.{Adds, withFile}

@@ -29,15 +29,15 @@ use Rattle.history.proofs.Rewrites.{theEntry, the-entry, around, beyond, passes
 use Rattle.model.specs.declared.VolumeFacts.{VolumeFacts}
 use Rattle.model.specs.declared.Fork.{Fork}
 use Rattle.model.specs.declared.ForkFacts.{ForkFacts}
-use Rattle.blockmap.proofs.Chains.{chain-most}
+use Rattle.chains.proofs.Chains.{chain-most}
 use Rattle.directory.specs.Cursor.{bytesAt, Stands}
 use Rattle.directory.specs.declared.EntryAt.{EntryAt}
 use Rattle.entries.proofs.Stored.{fields}
 use Rattle.forks.specs.Content.{Fillable}
-use Rattle.forks.specs.Growth.{newBlocks}
+use Rattle.growth.specs.Growth.{newBlocks}
 use Rattle.files.specs.Lookup.{Held}
 use Rattle.files.proofs.Forks.{large-block, small-block, few-in-volume, free-blocks, named-fork, fork-copyable}
-use Rattle.changes.proofs.Elsewhere.{held-stands, held-stored}
+use Rattle.files.proofs.Elsewhere.{held-stands, held-stored}
 
 -- the fork's blocks with so many new ones, and the image with the bytes stored in them
 abbrev pub grownBlocks : VolumeFacts → List ℕ → ForkFacts → ℕ → List ℕ

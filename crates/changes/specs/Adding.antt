@@ -5,7 +5,7 @@ use mathlib.Core.List.{List}
 use Rattle.model.specs.Facts.{dirStart, dirLength, nextNumber}
 use Rattle.model.specs.Directory.{padded}
 use Rattle.model.specs.Calls.{newEntry, created}
-use Rattle.entries.specs.Rooms.{HasRoom}
+use Rattle.placing.specs.Rooms.{HasRoom}
 use Rattle.model.specs.declared.VolumeFacts.{VolumeFacts}
 
 -- the directory block at byte base, whose reading ends at place end, is the first with room for the entry of a name of so many

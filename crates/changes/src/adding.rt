@@ -4,9 +4,9 @@ ghost use lib.ListN.{length};
 ghost use Rattle.model.specs.Bytes.{Bytes};
 ghost use Rattle.changes.specs.Adding.{Adds, withFile};
 ghost use Rattle.files.specs.Lookup.{Readable};
-use crate::counts::put_files;
-use crate::counts::put_next;
 use model::VolumeFacts;
+use stores::put_files;
+use stores::put_next;
 
 // Finder bytes come whole: 16 of them, each a byte. A proof learns it of a lent array by its first element.
 pub fn whole(finder: &[u8; 16])
@@ -33,7 +33,7 @@ pub fn add_file(
 {
     whole(finder);
     let number = f.next_number;
-    entries::insert_entry(image, base, end, number, name, finder, created, changed);
+    placing::insert_entry(image, base, end, number, name, finder, created, changed);
     put_next(image, number + 1);
     put_files(image, f.files + 1);
 }

@@ -1,12 +1,7 @@
-// A file of an accepted volume put in, grown, cut shorter and taken out.
+// A file of an accepted volume put in, and a fork grown.
 mod adding;
-mod counts;
 mod growing;
-mod shortening;
-mod taking;
 
 pub use adding::add_file;
 pub use adding::whole;
 pub use growing::grow_fork;
-pub use shortening::shorten_fork;
-pub use taking::take_file;

@@ -13,9 +13,9 @@ use Rattle.model.specs.declared.VolumeFacts.{VolumeFacts}
 use Rattle.model.specs.declared.ForkFacts.{ForkFacts}
 use Rattle.model.specs.declared.Fork.the-variants.{Data, Resource}
 use Rattle.blockmap.specs.Marks.{marked, claims, claimAll, unowned}
-use Rattle.blockmap.proofs.Marks.{claim-on, claim-not, claim-none, marked-none, marked-more, fires8-claim, fires9-unowned}
+use Rattle.chains.proofs.Marks.{claim-on, claim-not, claim-none, marked-none, marked-more, fires8-claim, fires9-unowned}
 use Rattle.checks.specs.Numbers.{Claims}
-use Rattle.checks.proofs.Numbers.{fires-here, passes-here}
+use Rattle.facts.proofs.Firing.{fires-here, passes-here}
 
 module _ (e : ℕ → ℕ) (n a : ℕ) where
   -- to claim the forks gs from the marks t is to claim hs from u

@@ -1,14 +1,13 @@
 -- Laws of the checks' order: the number that each part of the check gives, and the number that all parts give together.
-use Prim.Native.Nat.{ℕ, _+_, _-_, _*_, _/_, _%_, _≤_, _<_}
-use mathlib.Core.Path.{_≡_, refl, sym, ap, _∙_}
-use mathlib.Core.Bool.{Bool, true, false, not, _&&_, and-false}
+use Prim.Native.Nat.{ℕ, _+_, _-_, _/_, _<_}
+use mathlib.Core.Path.{_≡_, sym, ap, _∙_}
+use mathlib.Core.Bool.{Bool, true, false, _&&_, and-false}
 use mathlib.Core.List.{List}
 use native.Mathlib.Omega.{arith}
-use native.Mathlib.Nat.{mul-le-mul}
 use lib.ListN.{length, drop}
 use lib.Seq.{getD-drop}
-use lib.Dec.{eqb, ltb}
-use borrow.Author.Tests.{ltb-false, eq-eqb, ne-eqb, le-ltb, lt-ltb}
+use lib.Dec.{eqb}
+use borrow.Author.Tests.{eq-eqb, ne-eqb}
 use Rattle.model.specs.Lists.{every, distinct}
 use Rattle.model.specs.Bytes.{be16, Bytes}
 use Rattle.model.specs.Facts.{factsIn, factsOf, dirStart, dirLength, N, S, nextNumber, blocksIn}
@@ -17,22 +16,16 @@ use Rattle.model.specs.Directory.{directory, forksIn}
 use Rattle.model.specs.Check.{orElse, fires1, fires2, fires3, fires4, fires5, fires6, goodNumber, sameNumbers, sameNames, fires7}
 use Rattle.model.specs.Check.{from8, from7, from6, from5, from4, from3, from2, SoundFacts}
 use Rattle.model.specs.declared.VolumeFacts.{VolumeFacts}
-use Rattle.model.proofs.Lists.{or-false, so-not}
-use Rattle.model.proofs.Check.{Layout, layout, else-zero, sound-facts}
+use Rattle.model.proofs.Check.{else-zero, sound-facts}
 use Rattle.directory.specs.declared.Cursor.{Cursor}
 use Rattle.directory.specs.Cursor.{restOf, Begins}
 use Rattle.directory.proofs.Whole.{begins-directory}
-use Rattle.checks.specs.Numbers.{factsNumber, directoryNumber, Sized, Judged}
+use Rattle.checks.specs.Numbers.{directoryNumber, Judged}
+use Rattle.facts.specs.Limits.{factsNumber, Sized}
+use Rattle.facts.proofs.Firing.{fires-here, passes-here}
+use Rattle.facts.proofs.Numbered.{long-blocks}
 
 -- ---- one check and those behind it
-
-pub fires-here : (t : Bool) (k r : ℕ) → t ≡ true → orElse t k r ≡ k
-fires-here true k r h = refl
-fires-here false k r h = absurd (so-not false refl h)
-
-pub passes-here : (t : Bool) (k r : ℕ) → t ≡ false → orElse t k r ≡ r
-passes-here true k r h = absurd (so-not true h refl)
-passes-here false k r h = refl
 
 -- some checks and the rest: the number of the first ones, unless it is 0
 two-some : (t u : Bool) (i j r n : ℕ) → n ≡ orElse t i (orElse u j 0) → (n ≡ 0 → ⊥) → n ≡ orElse t i (orElse u j r)
@@ -43,46 +36,6 @@ two-some false false i j r n h z = absurd (z h)
 three-some : (t u v : Bool) (i j k r n : ℕ) → n ≡ orElse t i (orElse u j (orElse v k 0)) → (n ≡ 0 → ⊥) → n ≡ orElse t i (orElse u j (orElse v k r))
 three-some true u v i j k r n h z = h
 three-some false u v i j k r n h z = two-some u v j k r n h z
-
--- ---- check 3
-
-module _ (f : VolumeFacts) (blocks : ℕ) where
-  -- it fires where something of the layout fails
-  pub layout-fires : (Layout f blocks → ⊥) → true ≡ fires3 f blocks
-  layout-fires z = go (fires3 f blocks) refl
-    where
-      go : (t : Bool) → fires3 f blocks ≡ t → true ≡ t
-      go true h = refl
-      go false h = absurd (z (layout f blocks h))
-
--- the bytes of all allocation blocks fit a number of 32 bits
-pub area-fits : (n a : ℕ) → n ≤ 640 → a ≤ 32768 → n * a ≤ 20971520
-area-fits n a h k = mul-le-mul h k
-
--- ---- checks 2 to 4
-
-module _ (f : VolumeFacts) (blocks : ℕ) where
-  pub number-2 : (f .signature ≡ 0xd2d7 → ⊥) → 2 ≡ factsNumber f blocks
-  unfolding factsNumber fires2
-  number-2 h = sym (fires-here _ 2 _ (ap not (ne-eqb (f .signature) 0xd2d7 h)))
-
-  module _ (s : f .signature ≡ 0xd2d7) where
-    signed : fires2 f ≡ false
-    unfolding fires2
-    signed = ap not (eq-eqb (f .signature) 0xd2d7 s)
-
-    pub number-3 : fires3 f blocks ≡ true → 3 ≡ factsNumber f blocks
-    unfolding factsNumber
-    number-3 h = sym (passes-here (fires2 f) 2 _ signed ∙ fires-here (fires3 f blocks) 3 _ h)
-
-    module _ (l : fires3 f blocks ≡ false) where
-      pub number-4 : 27 < f .«name_length» → 4 ≡ factsNumber f blocks
-      unfolding factsNumber fires4
-      number-4 h = sym (passes-here (fires2 f) 2 _ signed ∙ passes-here (fires3 f blocks) 3 _ l ∙ fires-here _ 4 0 (lt-ltb 27 (f .«name_length») h))
-
-      pub number-past : f .«name_length» ≤ 27 → 0 ≡ factsNumber f blocks
-      unfolding factsNumber fires4
-      number-past h = sym (passes-here (fires2 f) 2 _ signed ∙ passes-here (fires3 f blocks) 3 _ l ∙ passes-here _ 4 0 (le-ltb 27 (f .«name_length») h))
 
 -- ---- checks 6 and 7
 
@@ -186,14 +139,6 @@ judged image f h e l = record {
   directory = rw (ap (λ (g : VolumeFacts). dirStart g) e) (bytes-be16 image 1024 14 h);
   allocation = rw (ap (λ (g : VolumeFacts). S g) e) (bytes-be16 image 1024 28 h);
 }
-
--- an image that passes check 1 has 8 blocks or more
-pub long-blocks : (size : ℕ) → fires1 size ≡ false → 8 ≤ size / 512
-unfolding fires1
-long-blocks size h =
-    let a = or-false (not (eqb (size % 512) 0)) _ h in
-    let b = or-false (ltb (size / 512) 8) _ (a .1) in
-    ltb-false (size / 512) 8 (b .0)
 
 pub judged-sized : (image : List ℕ) (f : VolumeFacts) → Judged f image → Sized f (length image / 512)
 judged-sized image f j =

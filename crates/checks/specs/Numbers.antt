@@ -1,27 +1,17 @@
 -- What the parts of the check say: the numbers of some checks in their order, and what each part may rely on.
-use Prim.Native.Nat.{ℕ, _≤_, _<_}
+use Prim.Native.Nat.{ℕ, _<_}
 use mathlib.Core.Path.{_≡_}
 use mathlib.Core.Bool.{Bool, true, false}
 use mathlib.Core.List.{List}
 use lib.ListN.{length}
 use Rattle.model.specs.Facts.{factsOf, dirStart, S}
 use Rattle.model.specs.Directory.{ownedBlocks}
-use Rattle.model.specs.Check.{orElse, fires1, fires2, fires3, fires4, fires6, fires7, SoundFacts}
+use Rattle.model.specs.Check.{orElse, fires1, fires6, fires7, SoundFacts}
 use Rattle.blockmap.specs.Marks.{marked, claimAll}
 use Rattle.directory.specs.Cursor.{Passes}
 use Rattle.model.specs.declared.VolumeFacts.{VolumeFacts}
 use Rattle.model.specs.declared.ForkFacts.{ForkFacts}
 use Rattle.directory.specs.declared.Cursor.{Cursor}
-
--- the facts of an image of 8 blocks or more, their block numbers as stored
-pub record Sized (f : VolumeFacts) (blocks : ℕ) : Type 0 where
-  pub many : 8 ≤ blocks
-  pub directory : dirStart f < 65536
-  pub allocation : S f < 65536
-
--- 2, 3, 4 or 0
-unfoldable pub factsNumber : VolumeFacts → ℕ → ℕ
-factsNumber f blocks = orElse (fires2 f) 2 (orElse (fires3 f blocks) 3 (orElse (fires4 f) 4 0))
 
 -- 6, 7 or 0
 unfoldable pub directoryNumber : ℕ → ℕ → List (List ℕ) → ℕ

@@ -1,13 +1,6 @@
-// The directory: its entries in order, their fields, and names without case.
-mod fields;
-mod names;
+// The directory: its entries in order.
+mod places;
 mod reading;
-
-pub use fields::number_of;
-pub use fields::read_entry;
-pub use fields::read_fork;
-pub use names::fold;
-pub use names::same_name;
 
 // A place in the directory's reading.
 pub struct Cursor {

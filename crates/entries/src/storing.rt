@@ -10,8 +10,8 @@ ghost use Rattle.directory.specs.Cursor.{Stands};
 use directory::EntryAt;
 use model::Fork;
 use model::ForkFacts;
-use model::put16_at;
-use model::put32_at;
+use stores::put16_at;
+use stores::put32_at;
 
 // Where an entry has the fork's fields.
 fn fork_place(fork: Fork) -> usize

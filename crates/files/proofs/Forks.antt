@@ -15,8 +15,8 @@ use Rattle.model.specs.Check.{SoundFork}
 use Rattle.model.specs.Calls.{entryNamed}
 use Rattle.model.proofs.Map.{chain-runs}
 use Rattle.history.proofs.Answers.{first-found, sound-fork}
-use Rattle.blockmap.specs.Places.{HasPlace}
-use Rattle.blockmap.proofs.Marks.{sound-most}
+use Rattle.chains.specs.Places.{HasPlace}
+use Rattle.chains.proofs.Marks.{sound-most}
 use Rattle.directory.specs.Cursor.{bytesAt}
 use Rattle.model.specs.declared.VolumeFacts.{VolumeFacts}
 use Rattle.model.specs.declared.Fork.{Fork}

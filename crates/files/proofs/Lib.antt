@@ -2,3 +2,4 @@ pub mod Octets
 pub mod Locked
 pub mod Lookups
 pub mod Forks
+pub mod Elsewhere

@@ -24,8 +24,8 @@ use Rattle.laws.proofs.Chains.{good}
 use Rattle.laws.proofs.Content.{Inside, length-bytes, part-take}
 use Rattle.history.proofs.Answers.{sound-fork}
 use Rattle.history.proofs.Reading.{area}
-use Rattle.blockmap.specs.Places.{HasPlace, IsPlace}
-use Rattle.blockmap.proofs.Chains.{chain-most}
+use Rattle.chains.specs.Places.{HasPlace, IsPlace}
+use Rattle.chains.proofs.Chains.{chain-most}
 use Rattle.forks.specs.Content.{Copyable}
 
 -- ---- the buffer

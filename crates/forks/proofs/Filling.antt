@@ -18,8 +18,8 @@ use Rattle.laws.proofs.Joins.{other}
 use Rattle.model.proofs.Map.{runs-block, runs-rest, block-low, block-high, chain-low, chain-high, chain-once}
 use Rattle.laws.proofs.Content.{Inside, bytes-same, part-clear, blocks-apart}
 use Rattle.laws.proofs.Alike.{entries-frame}
-use Rattle.blockmap.specs.Places.{HasPlace, IsPlace}
-use Rattle.blockmap.proofs.Chains.{chain-most}
+use Rattle.chains.specs.Places.{HasPlace, IsPlace}
+use Rattle.chains.proofs.Chains.{chain-most}
 use Rattle.forks.specs.Content.{Fillable}
 
 -- ---- pastes

@@ -47,7 +47,7 @@ fn copy_blocks(
     ensures { λ r. ⌜ now (buffer .exit) ≡ part offset count (forkBytes (start .0) size (now (image .entry)) g) ++ drop count (now (buffer .entry)) ⌝ }
 {
     let a = size as usize;
-    let mut b = blockmap::block_at(image, g.start, (offset / a) as u16);
+    let mut b = chains::block_at(image, g.start, (offset / a) as u16);
     let mut within = offset % a;
     let mut done = 0;
     loop {
@@ -102,7 +102,7 @@ pub fn fill_fork(
         return;
     }
     let a = size as usize;
-    let mut block = blockmap::block_at(image, first, (offset / a) as u16);
+    let mut block = chains::block_at(image, first, (offset / a) as u16);
     let mut at = offset % a;
     let mut stored = 0;
     loop {

@@ -17,7 +17,7 @@ use Rattle.laws.proofs.Entries.{mapEntry-setEntry, mapEntry-setEntry-other}
 use Rattle.model.proofs.Map.{runs-rest, runs-end, runs-block, chain-once, chain-low, block-low, block-high, length-chain}
 use Rattle.laws.proofs.Joins.{other}
 use Rattle.joining.specs.Free.{freeFrom, IsFree}
-use Rattle.blockmap.proofs.Chains.{at}
+use Rattle.chains.proofs.Chains.{at}
 use Rattle.joining.proofs.Linking.{free-hit, free-all, free-same, join-at, standing, runs-at, take-chain, drop-chain, chain-keep}
 
 -- ---- no block is kept, or all are

@@ -17,7 +17,7 @@ use Rattle.model.proofs.Times.{times-head, times-tail}
 use Rattle.model.proofs.Map.{runs-rest, runs-end, end-runs, runs-block, runs-more}
 use Rattle.joining.specs.Free.{freeFrom, IsFree}
 use Rattle.blockmap.proofs.Ranges.{all-onward, keep-hit, keep-miss, keep-none, keep-same}
-use Rattle.blockmap.proofs.Chains.{at}
+use Rattle.chains.proofs.Chains.{at}
 
 -- ---- the free blocks from b on
 

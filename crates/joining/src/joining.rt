@@ -7,7 +7,7 @@ ghost use lib.ListN.{length, take, drop};
 ghost use Rattle.model.specs.Lists.{firstOr0};
 ghost use Rattle.model.specs.Map.{mapEntry, runs, chainBlocks, freeBlocks, putChain, putFree};
 ghost use Rattle.joining.specs.Free.{IsFree, freeFrom};
-use blockmap::block_at;
+use chains::block_at;
 use model::AllocationBlock;
 use packed::load;
 use packed::store;

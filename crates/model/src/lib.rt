@@ -8,8 +8,6 @@ mod volume_facts;
 
 pub use numbers::be16_at;
 pub use numbers::be32_at;
-pub use numbers::put16_at;
-pub use numbers::put32_at;
 
 // The number of an allocation block: 2 to N + 1.
 pub struct AllocationBlock(pub u16);

@@ -1,8 +1,7 @@
-// Big-endian numbers, read from bytes and stored as bytes.
+// Big-endian numbers, read from bytes.
 ghost use mathlib.Core.Path.{_≡_};
-ghost use Prim.Native.Nat.{_+_, _≤_, _<_};
+ghost use Prim.Native.Nat.{_+_, _<_};
 ghost use lib.ListN.{length};
-ghost use lib.Seq.{sets};
 ghost use Rattle.model.specs.Bytes.{byte, be16, be32, u16, u32};
 
 // The byte at a place, as wide as the numbers it is a part of.
@@ -29,24 +28,4 @@ pub fn be32_at(s: &[u8], at: usize) -> u32
     let high = be16_at(s, at) as u32;
     let low = be16_at(s, at + 2) as u32;
     high * 65536 + low
-}
-
-// Stores a number as its two bytes.
-pub fn put16_at(s: &mut [u8], at: usize, v: u16)
-    requires { ⌜ at + 2 ≤ length (now s) ⌝ }
-    ensures { λ _. ⌜ now (s .exit) ≡ sets (now (s .entry)) at (u16 v) ⌝ }
-{
-    s[at] = (v / 256) as u8;
-    s[at + 1] = (v % 256) as u8;
-}
-
-// Stores a number as its four bytes.
-pub fn put32_at(s: &mut [u8], at: usize, v: u32)
-    requires { ⌜ at + 4 ≤ length (now s) ⌝ }
-    ensures { λ _. ⌜ now (s .exit) ≡ sets (now (s .entry)) at (u32 v) ⌝ }
-{
-    s[at] = (v / 16777216) as u8;
-    s[at + 1] = (v / 65536 % 256) as u8;
-    s[at + 2] = (v / 256 % 256) as u8;
-    s[at + 3] = (v % 256) as u8;
 }

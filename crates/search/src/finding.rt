@@ -7,7 +7,7 @@ use crate::Found;
 use directory::Cursor;
 use directory::EntryAt;
 use directory::Step;
-use directory::same_name;
+use names::same_name;
 
 // Whether the entry has the name.
 fn has_name(image: &[u8], e: EntryAt, name: &[u8]) -> bool

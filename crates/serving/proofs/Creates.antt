@@ -15,17 +15,17 @@ use Rattle.model.specs.Calls.{Does, Fits, nameOf, forkGiven, badName, refuses, 
 use Rattle.model.specs.Calls.Call.{create}
 use Rattle.history.proofs.Answers.{GoodName, good-name}
 use Rattle.directory.specs.Cursor.{Begins}
-use Rattle.entries.specs.Rooms.{HasRoom, Roomy}
+use Rattle.placing.specs.Rooms.{HasRoom, Roomy}
 use Rattle.model.specs.declared.VolumeFacts.{VolumeFacts}
 use Rattle.directory.specs.declared.Cursor.{Cursor}
 use Rattle.directory.specs.declared.EntryAt.{EntryAt}
-use Rattle.entries.specs.declared.Room.{Room}
-use Rattle.entries.specs.declared.Room.the-variants.{At, Nothing}
+use Rattle.placing.specs.declared.Room.{Room}
+use Rattle.placing.specs.declared.Room.the-variants.{At, Nothing}
 use Rattle.changes.specs.Adding.{Adds, withFile}
-use Rattle.serving.specs.Told.{toldNumber}
+use Rattle.answers.specs.Told.{toldNumber}
 use Rattle.files.specs.Lookup.{Readable, Found, Missed}
 use Rattle.changes.proofs.Added.{adds-some}
-use Rattle.serving.proofs.Replies.{refuse, serve}
+use Rattle.answers.proofs.Replies.{refuse, serve}
 
 -- ---- the search for room from the directory's first block on
 

@@ -17,12 +17,12 @@ use Rattle.model.specs.declared.Fork.{Fork}
 use Rattle.model.specs.declared.ForkFacts.{ForkFacts}
 use Rattle.directory.specs.Cursor.{bytesAt}
 use Rattle.directory.specs.declared.EntryAt.{EntryAt}
-use Rattle.forks.specs.declared.NewBlocks.{NewBlocks}
-use Rattle.forks.specs.Growth.{newBlocks, Grows}
-use Rattle.serving.specs.Told.{toldNumber}
+use Rattle.growth.specs.declared.NewBlocks.{NewBlocks}
+use Rattle.growth.specs.Growth.{newBlocks, Grows}
+use Rattle.answers.specs.Told.{toldNumber}
 use Rattle.files.specs.Lookup.{Readable, Found, Missed}
 use Rattle.files.proofs.Forks.{named-fork}
-use Rattle.serving.proofs.Refusing.{behindOffset, write-changing, refused-11, refused-name, refused-15, refused-own, done}
+use Rattle.answers.proofs.Refusing.{behindOffset, write-changing, refused-11, refused-name, refused-15, refused-own, done}
 
 -- ---- the returns of write
 

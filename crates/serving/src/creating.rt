@@ -1,14 +1,14 @@
 // create: all that may refuse it comes before the change.
 ghost use Rattle.model.specs.Calls.{Call, Does};
 ghost use Rattle.files.specs.Lookup.{Readable};
-ghost use Rattle.serving.specs.Told.{toldNumber};
+ghost use Rattle.answers.specs.Told.{toldNumber};
 use directory::EntryAt;
-use entries::Room;
 use files::Named;
 use files::first_entry;
 use files::is_locked;
 use files::lookup;
 use model::VolumeFacts;
+use placing::Room;
 
 // On an accepted image, whose facts are f.
 pub fn serve_create(
@@ -36,7 +36,7 @@ pub fn serve_create(
                 return 19;
             }
             let size = EntryAt::TITLE_AT + name.len();
-            match entries::find_room(image, first_entry(f), size + size % 2) {
+            match placing::find_room(image, first_entry(f), size + size % 2) {
                 Room::Nothing => 18,
                 Room::At(base, end) => {
                     changes::add_file(image, f, base, end, name, finder, created, changed);

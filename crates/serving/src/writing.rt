@@ -1,12 +1,12 @@
 // write: all that may refuse it comes before the change.
 ghost use Rattle.model.specs.Calls.{Call, Does};
 ghost use Rattle.files.specs.Lookup.{Readable};
-ghost use Rattle.serving.specs.Told.{toldNumber};
+ghost use Rattle.answers.specs.Told.{toldNumber};
 use files::Named;
 use files::file_locked;
 use files::is_locked;
 use files::lookup;
-use forks::new_blocks;
+use growth::new_blocks;
 use model::Fork;
 use model::VolumeFacts;
 
@@ -32,7 +32,7 @@ pub fn serve_write(
             if file_locked(image, e) {
                 return 15;
             }
-            let g = directory::read_fork(image, e, fork);
+            let g = fields::read_fork(image, e, fork);
             if (g.logical as u64) < offset {
                 return 16;
             }

@@ -12,7 +12,7 @@ use Rattle.model.specs.Calls.Call.{entry, find, block, read, create, write, cut
 use Rattle.laws.proofs.Calls.{by-volume, does-refuse}
 use Rattle.model.specs.declared.DirectoryEntry.{DirectoryEntry}
 use Rattle.model.specs.declared.Fork.{Fork}
-use Rattle.serving.specs.Told.{toldEntry, toldFind, toldBlock, toldRead, toldNumber}
+use Rattle.answers.specs.Told.{toldEntry, toldFind, toldBlock, toldRead, toldNumber}
 
 module _ {image : List ℕ} {n : ℕ} (octets : Bytes image) (v : n ≡ verdict image) (z : n ≡ 0 → ⊥) where
   stop : (call : Call) → Fits call → Does call image (only n (lent call)) image

@@ -1,11 +1,11 @@
 // The calls that change the image: each checks the volume, then answers.
 ghost use Rattle.model.specs.Calls.{Call, Does};
-ghost use Rattle.serving.specs.Told.{toldNumber};
+ghost use Rattle.answers.specs.Told.{toldNumber};
 use crate::checking::check;
 use model::Fork;
+use releasing::serve_cut;
+use releasing::serve_delete;
 use serving::serve_create;
-use serving::serve_cut;
-use serving::serve_delete;
 use serving::serve_write;
 
 // Puts in an empty file.

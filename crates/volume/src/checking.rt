@@ -1,15 +1,15 @@
 // check: the number of the first check that fires, or the volume's facts.
 ghost use Rattle.model.specs.Calls.{Call, Does};
-ghost use Rattle.serving.specs.Told.{toldCheck};
+ghost use Rattle.answers.specs.Told.{toldCheck};
+use answers::CheckAnswer;
+use answers::no_facts;
 use model::VolumeFacts;
-use serving::CheckAnswer;
-use serving::no_facts;
 
 // Checks the volume and gives its facts.
 pub fn check(image: &[u8]) -> CheckAnswer
     ensures { λ r. ⌜ Does Call.check (now (image .entry)) (toldCheck r) (now (image .exit)) ⌝ }
 {
-    if checks::bad_length(image.len()) {
+    if facts::bad_length(image.len()) {
         return CheckAnswer {
             number: 1,
             facts: no_facts(),

@@ -1,18 +1,18 @@
 // The calls that change nothing: each checks the volume, then answers.
 ghost use Rattle.model.specs.Calls.{Call, Does};
-ghost use Rattle.serving.specs.Told.{toldEntry, toldFind, toldBlock, toldRead};
+ghost use Rattle.answers.specs.Told.{toldEntry, toldFind, toldBlock, toldRead};
 use crate::checking::check;
+use answering::serve_block;
+use answering::serve_entry;
+use answering::serve_find;
+use answering::serve_read;
+use answers::BlockAnswer;
+use answers::EntryAnswer;
+use answers::FindAnswer;
+use answers::ReadAnswer;
+use answers::no_entry;
 use model::AllocationBlock;
 use model::Fork;
-use serving::BlockAnswer;
-use serving::EntryAnswer;
-use serving::FindAnswer;
-use serving::ReadAnswer;
-use serving::no_entry;
-use serving::serve_block;
-use serving::serve_entry;
-use serving::serve_find;
-use serving::serve_read;
 
 // The entry at a place in directory order.
 pub fn entry(image: &[u8], place: u64) -> EntryAnswer

@@ -11,7 +11,7 @@ use Rattle.model.specs.Lists.{firstOr0}
 use Rattle.model.specs.Map.{mapEntry, runs, chainBlocks, freeBlocks, putChain}
 use Rattle.laws.proofs.Entries.{length-setEntry}
 use Rattle.joining.specs.Free.{freeFrom}
-use Rattle.blockmap.proofs.Chains.{at}
+use Rattle.chains.proofs.Chains.{at}
 use Rattle.joining.proofs.Linking.{standing, free-all}
 use Rattle.joining.proofs.Changes.{free-from, first-new, first-old, no-chain, none-new, none-first, ext-requires, ext-leaves}
 use borrow.Author.Needs.{needs}

@@ -8,7 +8,7 @@ use lib.ListN.{length}
 use Rattle.model.specs.Bytes.{Bytes}
 use Rattle.model.specs.Map.{mapEntry, runs, chainBlocks}
 use Rattle.laws.proofs.Entries.{length-setEntry}
-use Rattle.blockmap.proofs.Chains.{at}
+use Rattle.chains.proofs.Chains.{at}
 use Rattle.joining.proofs.Changes.{short-none, short-all, rest-runs, short-leaves}
 use borrow.Author.Needs.{needs}
 use Rattle.joining.proofs.joining.shorten.Statement.{statement}

@@ -12,7 +12,7 @@ use Rattle.files.specs.Lookup.{Found, Held}
 use Rattle.files.proofs.Octets.{octets}
 use Rattle.files.proofs.Lookups.{names-file, names-none}
 use Rattle.files.proofs.Forks.{large-block, small-block}
-use Rattle.forks.proofs.Growing.{grows-free}
+use Rattle.growth.proofs.Growing.{grows-free}
 use Rattle.serving.proofs.Written.{Asked, write-locked, write-missed, write-file-locked, write-beyond, write-full, write-served}
 use borrow.Author.Needs.{needs}
 use Rattle.serving.proofs.writing.serve_write.Statement.{statement}

@@ -6,7 +6,8 @@ use lib.ListN.{length}
 use denote.Ref.{now}
 use Rattle.model.specs.Bytes.{Bytes}
 use Rattle.model.specs.Check.{fires1}
-use Rattle.checks.proofs.Numbers.{judged, long-blocks}
+use Rattle.checks.proofs.Numbers.{judged}
+use Rattle.facts.proofs.Numbered.{long-blocks}
 use Rattle.volume.proofs.Checked.{does-1, does-number, does-facts}
 use borrow.Author.Needs.{needs}
 use Rattle.volume.proofs.checking.check.Statement.{statement}

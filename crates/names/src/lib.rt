@@ -1,0 +1,5 @@
+// Names, compared without case.
+mod names;
+
+pub use names::fold;
+pub use names::same_name;

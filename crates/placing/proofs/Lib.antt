@@ -1,0 +1,2 @@
+pub mod Rooming
+pub mod Inserting
