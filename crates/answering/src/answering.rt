@@ -7,13 +7,13 @@ use answers::EntryAnswer;
 use answers::FindAnswer;
 use answers::ReadAnswer;
 use answers::no_entry;
+use facts::AllocationBlock;
+use facts::VolumeFacts;
 use files::Named;
 use files::first_entry;
 use files::lookup;
 use forks::copy_fork;
-use model::AllocationBlock;
 use model::Fork;
-use model::VolumeFacts;
 use search::Found;
 
 // For a program that has checked the image: its facts spare the check for each file.

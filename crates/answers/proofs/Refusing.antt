@@ -8,14 +8,14 @@ use native.Mathlib.Omega.{arith}
 use lib.ListN.{length}
 use lib.Dec.{ltb}
 use Rattle.model.specs.Lists.{any}
-use Rattle.model.specs.Bytes.{byte, Bytes}
-use Rattle.model.specs.Facts.{factsOf, A, freeCount, isLocked}
+use Rattle.facts.specs.Bytes.{byte, Bytes}
+use Rattle.facts.specs.Facts.{factsOf, A, freeCount, isLocked}
 use Rattle.model.specs.Directory.{directory, forkOf, flagsLock, blockCount, named}
 use Rattle.model.specs.Check.{orElse}
 use Rattle.model.specs.Calls.{Call, Does, Fits, nameOf, forkGiven, badName, grown, needed, refuses, entryNamed, knownIn, change, only, reply, lent}
 use Rattle.model.specs.Calls.Call.{write, cut, delete}
 use Rattle.directory.specs.Cursor.{bytesAt}
-use Rattle.model.specs.declared.VolumeFacts.{VolumeFacts}
+use Rattle.facts.specs.declared.VolumeFacts.{VolumeFacts}
 use Rattle.model.specs.declared.Fork.{Fork}
 use Rattle.directory.specs.declared.EntryAt.{EntryAt}
 use Rattle.answers.specs.Told.{toldNumber}

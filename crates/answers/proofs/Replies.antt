@@ -7,8 +7,8 @@ use native.Mathlib.Omega.{arith}
 use lib.ListN.{length}
 use borrow.Author.Tests.{le-leb, lt-leb, le-ltb, lt-ltb}
 use Rattle.model.specs.Lists.{any}
-use Rattle.model.specs.Bytes.{Bytes}
-use Rattle.model.specs.Facts.{A, S}
+use Rattle.facts.specs.Bytes.{Bytes}
+use Rattle.facts.specs.Facts.{A, S}
 use Rattle.model.specs.Map.{mapEntry}
 use Rattle.model.specs.Directory.{directory, entryIn, noEntry, forkOf, blockCount, forkBlocks, named}
 use Rattle.model.specs.Check.{orElse}
@@ -22,7 +22,7 @@ use Rattle.history.proofs.Reading.{lengths}
 use Rattle.chains.specs.Places.{IsPlace}
 use Rattle.directory.specs.Cursor.{bytesAt}
 use Rattle.search.specs.Search.{Placed}
-use Rattle.model.specs.declared.VolumeFacts.{VolumeFacts}
+use Rattle.facts.specs.declared.VolumeFacts.{VolumeFacts}
 use Rattle.model.specs.declared.DirectoryEntry.{DirectoryEntry}
 use Rattle.model.specs.declared.Fork.{Fork}
 use Rattle.model.specs.declared.ForkFacts.{ForkFacts}

@@ -1,7 +1,7 @@
 -- What the calls' answers tell, in the model's terms.
 use Prim.Native.Nat.{ℕ}
 use mathlib.Core.List.{List, []}
-use Rattle.model.specs.Facts.{noFacts}
+use Rattle.facts.specs.Facts.{noFacts}
 use Rattle.model.specs.Directory.{noEntry}
 use Rattle.model.specs.Calls.{Answer, only}
 use Rattle.answers.specs.declared.CheckAnswer.{CheckAnswer}

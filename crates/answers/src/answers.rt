@@ -1,13 +1,13 @@
 // The zeros that a refusal gives beside its number.
 ghost use mathlib.Core.Path.{_≡_};
-ghost use Rattle.model.specs.Facts.{noFacts};
-ghost use Rattle.model.specs.Bytes.{zeros};
+ghost use Rattle.facts.specs.Facts.{noFacts};
+ghost use Rattle.facts.specs.Bytes.{zeros};
 ghost use Rattle.model.specs.Directory.{forkIn, noEntry};
-use model::AllocationBlock;
+use facts::AllocationBlock;
+use facts::LogicalBlock;
+use facts::VolumeFacts;
 use model::DirectoryEntry;
 use model::ForkFacts;
-use model::LogicalBlock;
-use model::VolumeFacts;
 
 pub fn no_facts() -> VolumeFacts
     ensures { λ r. ⌜ r ≡ noFacts ⌝ }

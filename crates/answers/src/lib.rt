@@ -3,9 +3,9 @@ mod answers;
 
 pub use answers::no_entry;
 pub use answers::no_facts;
-use model::AllocationBlock;
+use facts::AllocationBlock;
+use facts::VolumeFacts;
 use model::DirectoryEntry;
-use model::VolumeFacts;
 
 // Each answer begins with its number: 0, or that of the refusal, and then all else is zero.
 pub struct CheckAnswer {

@@ -6,7 +6,7 @@ ghost use Rattle.model.specs.Map.{mapEntry, sortOf};
 ghost use Rattle.model.specs.Check.{fires5};
 ghost use Rattle.blockmap.specs.Marks.{Counted};
 use crate::Census;
-use model::AllocationBlock;
+use facts::AllocationBlock;
 use model::MapValue;
 use packed::load;
 

@@ -7,7 +7,7 @@ ghost use Rattle.model.specs.Map.{mapEntry, runs, chainBlocks};
 ghost use Rattle.model.specs.Directory.{forkBlocks};
 ghost use Rattle.blockmap.specs.Marks.{fresh, marked, claims};
 ghost use Rattle.chains.specs.Places.{HasPlace, IsPlace};
-use model::AllocationBlock;
+use facts::AllocationBlock;
 use model::ForkFacts;
 use packed::load;
 

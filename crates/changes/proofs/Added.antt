@@ -8,8 +8,8 @@ use lib.ListN.{length, drop}
 use lib.Seq.{paste, drop-drop}
 use borrow.Author.Tests.{leb-true}
 use Rattle.model.specs.Lists.{any}
-use Rattle.model.specs.Bytes.{part}
-use Rattle.model.specs.Facts.{dirStart, dirLength, nextNumber}
+use Rattle.facts.specs.Bytes.{part}
+use Rattle.facts.specs.Facts.{dirStart, dirLength, nextNumber}
 use Rattle.model.specs.Directory.{padded, entries, readEnd, cutBlocks, directoryBlocks}
 use Rattle.model.specs.Calls.{hasRoom, newEntry, filled, withFiles, withNext, created}
 use Rattle.model.proofs.Lists.{any-append}
@@ -24,7 +24,7 @@ use Rattle.placing.specs.Rooms.{HasRoom}
 use Rattle.directory.proofs.Steps.{blocks-rest}
 use Rattle.entries.proofs.Located.{cut-at}
 use Rattle.placing.proofs.Rooming.{block-of, room-placed}
-use Rattle.model.specs.declared.VolumeFacts.{VolumeFacts}
+use Rattle.facts.specs.declared.VolumeFacts.{VolumeFacts}
 use Rattle.directory.specs.declared.Cursor.{Cursor}
 use Rattle.changes.specs.Adding.{Adds, withFile}
 use Rattle.files.specs.Lookup.{Readable}

@@ -8,8 +8,8 @@ use native.Mathlib.Nat.{mul-le-mul-right, mul-le-mul-left}
 use lib.ListN.{length, take, length-append}
 use lib.Seq.{sets, length-take-le}
 use Rattle.model.specs.Lists.{any, firstOr0}
-use Rattle.model.specs.Bytes.{u16, u32}
-use Rattle.model.specs.Facts.{factsOf, N, A, S, freeCount}
+use Rattle.facts.specs.Bytes.{u16, u32}
+use Rattle.facts.specs.Facts.{factsOf, N, A, S, freeCount}
 use Rattle.model.specs.Map.{mapEntry, runs, chainBlocks, behind, freeBlocks, putChain}
 use Rattle.model.specs.Directory.{directory, directoryBlocks, named, forkPlace, forkOf, blockCount, forkBlocks}
 use Rattle.model.specs.Check.{Accepted}
@@ -26,7 +26,7 @@ use Rattle.laws.proofs.DirectorySteps.{Based}
 use Rattle.history.proofs.Reading.{area}
 use Rattle.history.proofs.Joined.{based}
 use Rattle.history.proofs.Rewrites.{theEntry, the-entry, around, beyond, passes-there}
-use Rattle.model.specs.declared.VolumeFacts.{VolumeFacts}
+use Rattle.facts.specs.declared.VolumeFacts.{VolumeFacts}
 use Rattle.model.specs.declared.Fork.{Fork}
 use Rattle.model.specs.declared.ForkFacts.{ForkFacts}
 use Rattle.chains.proofs.Chains.{chain-most}

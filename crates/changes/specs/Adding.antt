@@ -2,11 +2,11 @@
 use Prim.Native.Nat.{ℕ, _+_, _*_, _≤_, _<_}
 use mathlib.Core.Path.{_≡_}
 use mathlib.Core.List.{List}
-use Rattle.model.specs.Facts.{dirStart, dirLength, nextNumber}
+use Rattle.facts.specs.Facts.{dirStart, dirLength, nextNumber}
 use Rattle.model.specs.Directory.{padded}
 use Rattle.model.specs.Calls.{newEntry, created}
 use Rattle.placing.specs.Rooms.{HasRoom}
-use Rattle.model.specs.declared.VolumeFacts.{VolumeFacts}
+use Rattle.facts.specs.declared.VolumeFacts.{VolumeFacts}
 
 -- the directory block at byte base, whose reading ends at place end, is the first with room for the entry of a name of so many
 -- bytes, and there is a next file number after the next

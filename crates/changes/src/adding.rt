@@ -1,10 +1,10 @@
 // The entry of a new file, put into its directory block and counted.
 ghost use mathlib.Core.Path.{_≡_};
 ghost use lib.ListN.{length};
-ghost use Rattle.model.specs.Bytes.{Bytes};
+ghost use Rattle.facts.specs.Bytes.{Bytes};
 ghost use Rattle.changes.specs.Adding.{Adds, withFile};
 ghost use Rattle.files.specs.Lookup.{Readable};
-use model::VolumeFacts;
+use facts::VolumeFacts;
 use stores::put_files;
 use stores::put_next;
 

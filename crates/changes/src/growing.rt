@@ -2,17 +2,17 @@
 ghost use mathlib.Core.Path.{_≡_};
 ghost use Prim.Native.Nat.{_≤_};
 ghost use lib.ListN.{length};
-ghost use Rattle.model.specs.Facts.{freeCount};
+ghost use Rattle.facts.specs.Facts.{freeCount};
 ghost use Rattle.growth.specs.Growth.{newBlocks};
 ghost use Rattle.files.specs.Leaves.{Written};
 ghost use Rattle.files.specs.Lookup.{HeldFork};
 use directory::EntryAt;
+use facts::AllocationBlock;
+use facts::VolumeFacts;
 use forks::fill_fork;
 use growth::larger;
-use model::AllocationBlock;
 use model::Fork;
 use model::ForkFacts;
-use model::VolumeFacts;
 use stores::put_free;
 
 // Joins the new blocks that the fork g needs, stores the bytes from the offset on, then the fork's fields and the free count.

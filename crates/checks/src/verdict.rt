@@ -10,9 +10,9 @@ ghost use Rattle.directory.specs.Cursor.{restOf, Fits, Passes};
 ghost use Rattle.checks.specs.Numbers.{directoryNumber, Claims, Judged, Mapped};
 use directory::Cursor;
 use directory::Step;
-use facts::facts_number;
+use facts::VolumeFacts;
+use limits::facts_number;
 use model::Fork;
-use model::VolumeFacts;
 
 // Checks 6 and 7.
 fn directory_number(image: &[u8], c: Cursor, files: u16, next: u32) -> u8

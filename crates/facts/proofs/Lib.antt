@@ -1,2 +1,2 @@
-pub mod Firing
-pub mod Numbered
+pub mod Bytes
+pub mod Facts

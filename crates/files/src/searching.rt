@@ -1,11 +1,11 @@
 // From a name to its entry: refusals 12 and 13.
 ghost use Prim.Native.Nat.{_≤_};
-ghost use Rattle.model.specs.Facts.{dirStart, dirLength};
+ghost use Rattle.facts.specs.Facts.{dirStart, dirLength};
 ghost use Rattle.directory.specs.Cursor.{Begins};
 ghost use Rattle.files.specs.Lookup.{Readable, Names};
 use crate::Named;
 use directory::Cursor;
-use model::VolumeFacts;
+use facts::VolumeFacts;
 use search::Found;
 
 // At the first entry of the volume's directory.

@@ -4,13 +4,13 @@ ghost use mathlib.Core.List.{_++_};
 ghost use Prim.Native.Nat.{_+_, _*_, _≤_, min};
 ghost use lib.ListN.{length, drop};
 ghost use lib.Seq.{paste};
-ghost use Rattle.model.specs.Bytes.{part};
+ghost use Rattle.facts.specs.Bytes.{part};
 ghost use Rattle.model.specs.Calls.{forkBytes, putContent, readCount, copied};
 ghost use Rattle.model.specs.Map.{mapEntry, chainBlocks};
 ghost use Rattle.forks.specs.Content.{Copyable, Fillable};
-use model::AllocationBlock;
+use facts::AllocationBlock;
+use facts::LogicalBlock;
 use model::ForkFacts;
-use model::LogicalBlock;
 
 // Copies n bytes from a place of the image to a place of the buffer.
 fn copy_part(image: &[u8], from: usize, buffer: &mut [u8], to: usize, n: usize)

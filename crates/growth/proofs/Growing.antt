@@ -6,11 +6,11 @@ use native.Mathlib.Omega.{arith}
 use native.Mathlib.Nat.{mul-le-mul-left, div-le-self}
 use lib.Dec.{ltb}
 use borrow.Author.Tests.{lt-ltb, le-ltb, ltb-false}
-use Rattle.model.specs.Facts.{A, freeCount}
+use Rattle.facts.specs.Facts.{A, freeCount}
 use Rattle.model.specs.Directory.{blockCount}
 use Rattle.model.specs.Check.{orElse}
 use Rattle.model.specs.Calls.{fewest, grown, needed}
-use Rattle.model.specs.declared.VolumeFacts.{VolumeFacts}
+use Rattle.facts.specs.declared.VolumeFacts.{VolumeFacts}
 use Rattle.model.specs.declared.ForkFacts.{ForkFacts}
 use Rattle.laws.proofs.Content.{fewest-holds, fewest-least}
 use Rattle.growth.specs.declared.NewBlocks.{NewBlocks}

@@ -2,11 +2,11 @@
 use Prim.Native.Nat.{ℕ}
 use mathlib.Core.Path.{_≡_}
 use lib.Dec.{ltb}
-use Rattle.model.specs.Facts.{A, freeCount}
+use Rattle.facts.specs.Facts.{A, freeCount}
 use Rattle.model.specs.Directory.{blockCount}
 use Rattle.model.specs.Check.{orElse}
 use Rattle.model.specs.Calls.{grown, needed}
-use Rattle.model.specs.declared.VolumeFacts.{VolumeFacts}
+use Rattle.facts.specs.declared.VolumeFacts.{VolumeFacts}
 use Rattle.model.specs.declared.ForkFacts.{ForkFacts}
 use Rattle.growth.specs.declared.NewBlocks.{NewBlocks}
 

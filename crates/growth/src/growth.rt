@@ -4,8 +4,8 @@ ghost use Prim.Native.Nat.{_+_, _≤_, max};
 ghost use Rattle.model.specs.Calls.{fewest};
 ghost use Rattle.growth.specs.Growth.{Grows};
 use crate::NewBlocks;
+use facts::VolumeFacts;
 use model::ForkFacts;
-use model::VolumeFacts;
 
 // So many bytes fit on no volume. Of fewer, no sum wraps.
 const TOO_MANY: usize = 0x4000_0000_0000_0000;

@@ -6,14 +6,14 @@ use mathlib.Core.List.{List, [], _∷_, _++_, map}
 use native.Mathlib.Omega.{arith}
 use lib.ListN.{length}
 use Rattle.model.specs.Lists.{any, times}
-use Rattle.model.specs.Facts.{factsOf, N, A, S, nextNumber, freeCount}
+use Rattle.facts.specs.Facts.{factsOf, N, A, S, nextNumber, freeCount}
 use Rattle.model.specs.Map.{mapEntry}
 use Rattle.model.specs.Directory.{directory, forkOf, forkBlocks, named}
 use Rattle.model.specs.Check.{Accepted}
 use Rattle.model.specs.Calls.{Call, entryNamed, onNamed, withFork, shortened, change}
 use Rattle.model.specs.Calls.Call.{cut}
 use Rattle.history.specs.History.{Held, History, heldIn, cuts, changedFork, onCalled, moves, namedBlocks, blocksNamed, OnlyNamed, Agrees}
-use Rattle.model.specs.declared.VolumeFacts.{VolumeFacts}
+use Rattle.facts.specs.declared.VolumeFacts.{VolumeFacts}
 use Rattle.model.specs.declared.ForkFacts.{ForkFacts}
 use Rattle.model.specs.declared.Fork.{Fork}
 use Rattle.model.proofs.Times.{times-append}

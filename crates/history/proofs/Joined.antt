@@ -8,13 +8,13 @@ use mathlib.Core.Logic.{inl, inr}
 use native.Mathlib.Omega.{arith}
 use lib.ListN.{length, take, drop}
 use Rattle.model.specs.Lists.{any, times, flat}
-use Rattle.model.specs.Bytes.{byte, u16, u32}
-use Rattle.model.specs.Facts.{factsOf, dirStart, dirLength, N, A, S}
+use Rattle.facts.specs.Bytes.{byte, u16, u32}
+use Rattle.facts.specs.Facts.{factsOf, dirStart, dirLength, N, A, S}
 use Rattle.model.specs.Directory.{directory, nameIn, named}
 use Rattle.model.specs.Check.{Accepted}
 use Rattle.model.specs.Calls.{Call, withDirectory, withFiles, withNext, withFree}
 use Rattle.history.specs.History.{File, called, onCalled, fileIn, namedBlocks, inBlock, inEntry, inDirectory, inFiles, inNext, inFree, OnlyNamed}
-use Rattle.model.specs.declared.VolumeFacts.{VolumeFacts}
+use Rattle.facts.specs.declared.VolumeFacts.{VolumeFacts}
 use Rattle.model.proofs.Lists.{or-false}
 use Rattle.model.proofs.Check.{accepted-passes}
 use Rattle.laws.proofs.Content.{same-byte}

@@ -7,8 +7,8 @@ use native.Mathlib.Omega.{arith}
 use native.Mathlib.Decide.{ℕ-discrete}
 use lib.ListN.{length}
 use lib.Dec.{eqb}
-use Rattle.model.specs.Bytes.{Bytes}
-use Rattle.model.specs.Facts.{factsOf, dirStart, dirLength}
+use Rattle.facts.specs.Bytes.{Bytes}
+use Rattle.facts.specs.Facts.{factsOf, dirStart, dirLength}
 use Rattle.model.specs.Check.{Accepted}
 use Rattle.model.specs.Calls.{Call, refusal, change, after, answer, Fits, Does}
 use Rattle.history.specs.History.{History, moves, step, tells, toldBy, asked, Agrees, reading, Event, Run, isFull, OnlyNamed, changes, RoomRule, Step, Holds, EveryRun}

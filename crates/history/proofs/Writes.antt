@@ -6,15 +6,15 @@ use mathlib.Core.List.{List, [], _∷_, _++_, map}
 use native.Mathlib.Omega.{arith}
 use lib.ListN.{length}
 use Rattle.model.specs.Lists.{any, times}
-use Rattle.model.specs.Facts.{factsOf, dirLength, N, A, S, nextNumber, freeCount}
+use Rattle.facts.specs.Facts.{factsOf, dirLength, N, A, S, nextNumber, freeCount}
 use Rattle.model.specs.Map.{mapEntry}
 use Rattle.model.specs.Directory.{directory, directoryBlocks, forkOf, blockCount, forkBlocks, named}
 use Rattle.model.specs.Check.{Accepted}
 use Rattle.model.specs.Calls.{Call, grown, needed, fewest, entryNamed, forkBytes, onNamed, rewritten, withFork, withDirectory, withFree, written, change}
 use Rattle.model.specs.Calls.Call.{write}
 use Rattle.history.specs.History.{Held, History, heldIn, writes, changedFork, onCalled, moves, namedBlocks, blocksNamed, OnlyNamed, Agrees}
-use Rattle.model.specs.Bytes.{overwritten}
-use Rattle.model.specs.declared.VolumeFacts.{VolumeFacts}
+use Rattle.facts.specs.Bytes.{overwritten}
+use Rattle.facts.specs.declared.VolumeFacts.{VolumeFacts}
 use Rattle.model.specs.declared.ForkFacts.{ForkFacts}
 use Rattle.model.specs.declared.Fork.{Fork}
 use Rattle.model.proofs.Times.{times-append}

@@ -8,14 +8,14 @@ use mathlib.Core.Logic.{_↔_}
 use lib.ListN.{length, getD, take, drop}
 use lib.Dec.{eqb, ltb}
 use Rattle.model.specs.Lists.{any, keep, first, Reordered, times}
-use Rattle.model.specs.Bytes.{byte, be32, half, Within, overwritten, Bytes}
-use Rattle.model.specs.Facts.{factsOf, dirStart, dirLength, N, A, S, nextNumber, freeCount, isLocked, blockByte, withCounts, noFacts}
+use Rattle.facts.specs.Bytes.{byte, be32, half, Within, overwritten, Bytes}
+use Rattle.facts.specs.Facts.{factsOf, dirStart, dirLength, N, A, S, nextNumber, freeCount, isLocked, blockByte, withCounts, noFacts}
 use Rattle.model.specs.Map.{mapEntry}
 use Rattle.model.specs.Directory.{directory, numberIn, nameIn, finderIn, forkOf, wide, noEntry, flagsLock, blockCount, forkBlocks, sameName}
 use Rattle.model.specs.Check.{Accepted}
 use Rattle.model.specs.Calls.{Call, Known, fewest, badName, refuses, nameOf, forkGiven, entryNamed, forkBytes, readCount, copied, Answer, lent, Does}
 use Rattle.model.specs.Calls.Call.{check, entry, find, block, read, create, write, cut, delete}
-use Rattle.model.specs.declared.VolumeFacts.{VolumeFacts}
+use Rattle.facts.specs.declared.VolumeFacts.{VolumeFacts}
 use Rattle.model.specs.declared.DirectoryEntry.{DirectoryEntry}
 use Rattle.model.specs.declared.ForkFacts.{ForkFacts}
 use Rattle.model.specs.declared.Fork.{Fork}

@@ -8,7 +8,7 @@ ghost use Rattle.model.specs.Lists.{firstOr0};
 ghost use Rattle.model.specs.Map.{mapEntry, runs, chainBlocks, freeBlocks, putChain, putFree};
 ghost use Rattle.joining.specs.Free.{IsFree, freeFrom};
 use chains::block_at;
-use model::AllocationBlock;
+use facts::AllocationBlock;
 use packed::load;
 use packed::store;
 

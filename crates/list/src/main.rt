@@ -1,8 +1,8 @@
 // Lists a volume: an image on standard input, a line for the volume and one for each file on standard output.
 ghost use mathlib.Core.Path.{_≡_};
 ghost use lib.ListN.{length};
+use facts::VolumeFacts;
 use model::DirectoryEntry;
-use model::VolumeFacts;
 
 // The most bytes of an image: 127 blocks.
 const MOST: usize = 65_024;

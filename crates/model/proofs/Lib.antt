@@ -1,7 +1,5 @@
 pub mod Lists
 pub mod Times
-pub mod Bytes
-pub mod Facts
 pub mod Names
 pub mod Map
 pub mod Check

@@ -7,15 +7,15 @@ use lib.ListN.{length, getD, take, drop, replicate}
 use lib.Seq.{sets, paste}
 use lib.Dec.{eqb, leb, ltb}
 use Rattle.model.specs.Lists.{any, keep, first, placeOf, flat, firstOr0}
-use Rattle.model.specs.Bytes.{byte, u16, u32, zeros, part, Bytes, firstOf}
-use Rattle.model.specs.Facts.{factsOf, dirStart, dirLength, N, A, S, nextNumber, freeCount, isLocked, blockByte, noFacts}
+use Rattle.facts.specs.Bytes.{byte, u16, u32, zeros, part, Bytes, firstOf}
+use Rattle.facts.specs.Facts.{factsOf, dirStart, dirLength, N, A, S, nextNumber, freeCount, isLocked, blockByte, noFacts}
 use Rattle.model.specs.Map.{mapEntry, freeBlocks, putChain, putFree}
 use Rattle.model.specs.Directory.{padded, entries, readEnd, directoryBlocks, directory, forkPlace, forkOf, entryIn, noEntry, flagsLock, blockCount, forkBlocks, named}
 use Rattle.model.specs.Check.{orElse, verdict}
-use Rattle.model.specs.declared.VolumeFacts.{VolumeFacts}
+use Rattle.facts.specs.declared.VolumeFacts.{VolumeFacts}
 use Rattle.model.specs.declared.DirectoryEntry.{DirectoryEntry}
 use Rattle.model.specs.declared.ForkFacts.{ForkFacts}
-use Rattle.model.specs.declared.AllocationBlock.{AllocationBlock}
+use Rattle.facts.specs.declared.AllocationBlock.{AllocationBlock}
 use Rattle.model.specs.declared.Fork.{Fork}
 use Rattle.model.specs.declared.Fork.the-variants.{Data, Resource}
 

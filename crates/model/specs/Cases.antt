@@ -6,14 +6,14 @@ use mathlib.Core.List.{List, [], _∷_, _++_, map}
 use lib.ListN.{length, take, drop, replicate}
 use lib.Seq.{paste}
 use Rattle.model.specs.Lists.{flat, from}
-use Rattle.model.specs.Bytes.{byte, u16, u32, zeros, part}
-use Rattle.model.specs.Facts.{factsOf, blocksIn, noFacts}
+use Rattle.facts.specs.Bytes.{byte, u16, u32, zeros, part}
+use Rattle.facts.specs.Facts.{factsOf, blocksIn, noFacts}
 use Rattle.model.specs.Map.{mapEntry}
 use Rattle.model.specs.Directory.{noEntry}
 use Rattle.model.specs.Check.{fires3, verdict}
 use Rattle.model.specs.Calls.{Call, Answer, only, tellsFacts, tellsEntry, tellsBlock, answer, after}
 use Rattle.model.specs.Calls.Call.{check, entry, find, block, read, create, write, cut, delete}
-use Rattle.model.specs.declared.VolumeFacts.{VolumeFacts}
+use Rattle.facts.specs.declared.VolumeFacts.{VolumeFacts}
 use Rattle.model.specs.declared.DirectoryEntry.{DirectoryEntry}
 use Rattle.model.specs.declared.Fork.the-variants.{Data, Resource}
 

@@ -1,6 +1,4 @@
 pub mod Lists
-pub mod Bytes
-pub mod Facts
 pub mod Map
 pub mod Directory
 pub mod Check

@@ -4,7 +4,7 @@ ghost use mathlib.Core.Path.{_≡_};
 ghost use Prim.Native.Nat.{_+_, _*_, _/_, _%_, _≤_, _<_};
 ghost use lib.ListN.{length};
 ghost use Rattle.model.specs.Map.{entryByte, mapEntry, setEntry};
-use model::AllocationBlock;
+use facts::AllocationBlock;
 
 // The map starts here.
 const MAP_AT: usize = 1088;

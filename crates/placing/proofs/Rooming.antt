@@ -8,12 +8,12 @@ use lib.ListN.{length, take, drop}
 use lib.Seq.{paste, drop-drop, take-take, take-all}
 use borrow.Author.Tests.{not-false, le-leb, lt-leb}
 use Rattle.model.specs.Lists.{every, any, flat}
-use Rattle.model.specs.Bytes.{zeros, part}
-use Rattle.model.specs.Facts.{dirStart, dirLength}
+use Rattle.facts.specs.Bytes.{zeros, part}
+use Rattle.facts.specs.Facts.{dirStart, dirLength}
 use Rattle.model.specs.Directory.{readAt, entries, readEnd, cutBlocks, directoryBlocks, listing}
 use Rattle.model.specs.Check.{goodEntry, fires6}
 use Rattle.model.specs.Calls.{filled, hasRoom, placed, withDirectory}
-use Rattle.model.specs.declared.VolumeFacts.{VolumeFacts}
+use Rattle.facts.specs.declared.VolumeFacts.{VolumeFacts}
 use Rattle.model.proofs.Lists.{and-true, or-false, any-append, every-append}
 use Rattle.laws.proofs.Block.{sound, added-reads}
 use Rattle.laws.proofs.Blocks.{Cleans, cut-count, clean-parts, listing-append}

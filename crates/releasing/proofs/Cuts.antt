@@ -5,13 +5,13 @@ use mathlib.Core.Bool.{false}
 use mathlib.Core.List.{List}
 use native.Mathlib.Omega.{arith}
 use borrow.Author.Tests.{lt-ltb, le-ltb}
-use Rattle.model.specs.Bytes.{Bytes, byte}
-use Rattle.model.specs.Facts.{isLocked}
+use Rattle.facts.specs.Bytes.{Bytes, byte}
+use Rattle.facts.specs.Facts.{isLocked}
 use Rattle.model.specs.Directory.{forkOf, flagsLock}
 use Rattle.model.specs.Calls.{Does, Fits, shortened, change}
 use Rattle.model.specs.Calls.Call.{cut}
 use Rattle.directory.specs.Cursor.{bytesAt}
-use Rattle.model.specs.declared.VolumeFacts.{VolumeFacts}
+use Rattle.facts.specs.declared.VolumeFacts.{VolumeFacts}
 use Rattle.model.specs.declared.Fork.{Fork}
 use Rattle.model.specs.declared.ForkFacts.{ForkFacts}
 use Rattle.directory.specs.declared.EntryAt.{EntryAt}

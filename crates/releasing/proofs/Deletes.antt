@@ -3,13 +3,13 @@ use Prim.Native.Nat.{ℕ, _-_}
 use mathlib.Core.Path.{_≡_, refl, _∙_}
 use mathlib.Core.Bool.{false}
 use mathlib.Core.List.{List}
-use Rattle.model.specs.Bytes.{Bytes, byte}
-use Rattle.model.specs.Facts.{isLocked}
+use Rattle.facts.specs.Bytes.{Bytes, byte}
+use Rattle.facts.specs.Facts.{isLocked}
 use Rattle.model.specs.Directory.{flagsLock}
 use Rattle.model.specs.Calls.{Does, Fits, deleted, change}
 use Rattle.model.specs.Calls.Call.{delete}
 use Rattle.directory.specs.Cursor.{bytesAt}
-use Rattle.model.specs.declared.VolumeFacts.{VolumeFacts}
+use Rattle.facts.specs.declared.VolumeFacts.{VolumeFacts}
 use Rattle.directory.specs.declared.EntryAt.{EntryAt}
 use Rattle.answers.specs.Told.{toldNumber}
 use Rattle.files.specs.Lookup.{Readable, Found}

@@ -2,12 +2,12 @@
 ghost use Rattle.model.specs.Calls.{Call, Does};
 ghost use Rattle.files.specs.Lookup.{Readable};
 ghost use Rattle.answers.specs.Told.{toldNumber};
+use facts::VolumeFacts;
 use files::Named;
 use files::file_locked;
 use files::is_locked;
 use files::lookup;
 use model::Fork;
-use model::VolumeFacts;
 
 // On an accepted image, whose facts are f.
 pub fn serve_cut(

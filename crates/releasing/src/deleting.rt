@@ -2,11 +2,11 @@
 ghost use Rattle.model.specs.Calls.{Call, Does};
 ghost use Rattle.files.specs.Lookup.{Readable};
 ghost use Rattle.answers.specs.Told.{toldNumber};
+use facts::VolumeFacts;
 use files::Named;
 use files::file_locked;
 use files::is_locked;
 use files::lookup;
-use model::VolumeFacts;
 
 // On an accepted image, whose facts are f.
 pub fn serve_delete(image: &mut [u8], f: VolumeFacts, name: &[u8]) -> u8

@@ -6,7 +6,7 @@ use mathlib.Core.List.{List, [], _∷_, _++_}
 use native.Mathlib.Omega.{arith}
 use lib.ListN.{length, length-append}
 use Rattle.model.specs.Lists.{any, times}
-use Rattle.model.specs.Facts.{factsOf, N, A, S, freeCount}
+use Rattle.facts.specs.Facts.{factsOf, N, A, S, freeCount}
 use Rattle.model.specs.Map.{mapEntry, setEntry, runs, chainBlocks, putFree}
 use Rattle.model.specs.Directory.{directory, directoryBlocks, forkOf, forksIn, blockCount, forkBlocks, named}
 use Rattle.model.specs.Check.{Accepted}
@@ -24,7 +24,7 @@ use Rattle.history.proofs.Rewrites.{it-alone, theEntry, passes-there}
 use Rattle.joining.proofs.Linking.{chain-keep}
 use Rattle.directory.specs.Cursor.{bytesAt, Stands, Lies}
 use Rattle.entries.specs.Blocks.{Block, Removes}
-use Rattle.model.specs.declared.VolumeFacts.{VolumeFacts}
+use Rattle.facts.specs.declared.VolumeFacts.{VolumeFacts}
 use Rattle.model.specs.declared.Fork.the-variants.{Data, Resource}
 use Rattle.model.specs.declared.ForkFacts.{ForkFacts}
 use Rattle.directory.specs.declared.EntryAt.{EntryAt}

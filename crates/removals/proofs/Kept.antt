@@ -8,8 +8,8 @@ use native.Mathlib.Nat.{mul-le-mul-right}
 use lib.ListN.{length, take, drop, length-drop}
 use lib.Seq.{sets, length-take-le}
 use Rattle.model.specs.Lists.{any, firstOr0}
-use Rattle.model.specs.Bytes.{u16, u32}
-use Rattle.model.specs.Facts.{factsOf, N, A, S, freeCount}
+use Rattle.facts.specs.Bytes.{u16, u32}
+use Rattle.facts.specs.Facts.{factsOf, N, A, S, freeCount}
 use Rattle.model.specs.Map.{mapEntry, chainBlocks, putChain, putFree}
 use Rattle.model.specs.Directory.{directory, forkPlace, forkOf, blockCount, forkBlocks, named}
 use Rattle.model.specs.Check.{Accepted}
@@ -23,7 +23,7 @@ use Rattle.history.proofs.Joined.{based}
 use Rattle.history.proofs.Rewrites.{theEntry, around, beyond, passes-there}
 use Rattle.directory.specs.Cursor.{Stands}
 use Rattle.entries.proofs.Stored.{fields}
-use Rattle.model.specs.declared.VolumeFacts.{VolumeFacts}
+use Rattle.facts.specs.declared.VolumeFacts.{VolumeFacts}
 use Rattle.model.specs.declared.Fork.{Fork}
 use Rattle.model.specs.declared.ForkFacts.{ForkFacts}
 use Rattle.directory.specs.declared.EntryAt.{EntryAt}

@@ -3,11 +3,11 @@ ghost use Prim.Native.Nat.{_≤_};
 ghost use Rattle.files.specs.Leaves.{Shortened};
 ghost use Rattle.files.specs.Lookup.{HeldFork};
 use directory::EntryAt;
+use facts::AllocationBlock;
+use facts::VolumeFacts;
 use growth::fewest_blocks;
-use model::AllocationBlock;
 use model::Fork;
 use model::ForkFacts;
-use model::VolumeFacts;
 use stores::put_free;
 
 // Frees the blocks of the fork g that its first bytes, as many as the size says, don't need, then stores the fork's fields and the

@@ -3,8 +3,8 @@ ghost use Rattle.files.specs.Leaves.{Deleted};
 ghost use Rattle.files.specs.Lookup.{Held};
 use directory::Cursor;
 use directory::EntryAt;
+use facts::VolumeFacts;
 use model::Fork;
-use model::VolumeFacts;
 use stores::put_files;
 use stores::put_free;
 

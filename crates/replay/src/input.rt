@@ -56,7 +56,7 @@ fn number16() -> Field {
     if io::read_full(0, &mut b) != 2 {
         return bad_record();
     }
-    Field::Is(model::be16_at(&b, 0) as u64)
+    Field::Is(facts::be16_at(&b, 0) as u64)
 }
 
 pub fn date() -> DateField {
@@ -65,7 +65,7 @@ pub fn date() -> DateField {
         bad_record();
         return DateField::Stop;
     }
-    DateField::Is(model::be32_at(&b, 0))
+    DateField::Is(facts::be32_at(&b, 0))
 }
 
 pub fn number32() -> Field {
@@ -81,8 +81,8 @@ pub fn number64() -> Field {
     if io::read_full(0, &mut b) != 8 {
         return bad_record();
     }
-    let high = model::be32_at(&b, 0) as u64;
-    let low = model::be32_at(&b, 4) as u64;
+    let high = facts::be32_at(&b, 0) as u64;
+    let low = facts::be32_at(&b, 4) as u64;
     Field::Is(high * 4_294_967_296 + low)
 }
 

@@ -7,8 +7,8 @@ use native.Mathlib.Omega.{arith}
 use lib.ListN.{length, drop}
 use borrow.Author.Tests.{eq-eqb, ne-eqb}
 use Rattle.model.specs.Lists.{any}
-use Rattle.model.specs.Bytes.{Bytes}
-use Rattle.model.specs.Facts.{factsOf, dirStart, dirLength, nextNumber, isLocked}
+use Rattle.facts.specs.Bytes.{Bytes}
+use Rattle.facts.specs.Facts.{factsOf, dirStart, dirLength, nextNumber, isLocked}
 use Rattle.model.specs.Directory.{padded, cutBlocks, directoryBlocks, directory, named}
 use Rattle.model.specs.Check.{orElse}
 use Rattle.model.specs.Calls.{Does, Fits, nameOf, forkGiven, badName, refuses, knownIn, hasRoom, change, lent, reply}
@@ -16,7 +16,7 @@ use Rattle.model.specs.Calls.Call.{create}
 use Rattle.history.proofs.Answers.{GoodName, good-name}
 use Rattle.directory.specs.Cursor.{Begins}
 use Rattle.placing.specs.Rooms.{HasRoom, Roomy}
-use Rattle.model.specs.declared.VolumeFacts.{VolumeFacts}
+use Rattle.facts.specs.declared.VolumeFacts.{VolumeFacts}
 use Rattle.directory.specs.declared.Cursor.{Cursor}
 use Rattle.directory.specs.declared.EntryAt.{EntryAt}
 use Rattle.placing.specs.declared.Room.{Room}

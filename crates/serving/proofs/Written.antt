@@ -6,13 +6,13 @@ use mathlib.Core.List.{List}
 use native.Mathlib.Omega.{arith}
 use lib.ListN.{length}
 use borrow.Author.Tests.{le-ltb, lt-ltb}
-use Rattle.model.specs.Bytes.{Bytes, byte}
-use Rattle.model.specs.Facts.{isLocked}
+use Rattle.facts.specs.Bytes.{Bytes, byte}
+use Rattle.facts.specs.Facts.{isLocked}
 use Rattle.model.specs.Directory.{forkOf, flagsLock}
 use Rattle.model.specs.Calls.{Does, Fits, change}
 use Rattle.model.specs.Calls.{written}
 use Rattle.model.specs.Calls.Call.{write}
-use Rattle.model.specs.declared.VolumeFacts.{VolumeFacts}
+use Rattle.facts.specs.declared.VolumeFacts.{VolumeFacts}
 use Rattle.model.specs.declared.Fork.{Fork}
 use Rattle.model.specs.declared.ForkFacts.{ForkFacts}
 use Rattle.directory.specs.Cursor.{bytesAt}

@@ -3,11 +3,11 @@ ghost use Rattle.model.specs.Calls.{Call, Does};
 ghost use Rattle.files.specs.Lookup.{Readable};
 ghost use Rattle.answers.specs.Told.{toldNumber};
 use directory::EntryAt;
+use facts::VolumeFacts;
 use files::Named;
 use files::first_entry;
 use files::is_locked;
 use files::lookup;
-use model::VolumeFacts;
 use placing::Room;
 
 // On an accepted image, whose facts are f.

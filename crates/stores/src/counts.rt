@@ -5,7 +5,7 @@ ghost use lib.ListN.{length};
 ghost use Rattle.model.specs.Calls.{withFiles, withNext, withFree};
 use crate::storing::put16_at;
 use crate::storing::put32_at;
-use model::VolumeFacts;
+use facts::VolumeFacts;
 
 pub fn put_files(image: &mut [u8], n: u16)
     requires { ⌜ 1088 ≤ length (now image) ⌝ }

@@ -3,13 +3,13 @@ ghost use Rattle.model.specs.Calls.{Call, Does};
 ghost use Rattle.answers.specs.Told.{toldCheck};
 use answers::CheckAnswer;
 use answers::no_facts;
-use model::VolumeFacts;
+use facts::VolumeFacts;
 
 // Checks the volume and gives its facts.
 pub fn check(image: &[u8]) -> CheckAnswer
     ensures { λ r. ⌜ Does Call.check (now (image .entry)) (toldCheck r) (now (image .exit)) ⌝ }
 {
-    if facts::bad_length(image.len()) {
+    if limits::bad_length(image.len()) {
         return CheckAnswer {
             number: 1,
             facts: no_facts(),

@@ -11,7 +11,7 @@ use answers::EntryAnswer;
 use answers::FindAnswer;
 use answers::ReadAnswer;
 use answers::no_entry;
-use model::AllocationBlock;
+use facts::AllocationBlock;
 use model::Fork;
 
 // The entry at a place in directory order.

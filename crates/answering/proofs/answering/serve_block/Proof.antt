@@ -2,7 +2,7 @@
 use native.Mathlib.Omega.{arith}
 use native.Mathlib.Nat.{div-le-self}
 use denote.Ref.{now}
-use Rattle.model.specs.Facts.{A}
+use Rattle.facts.specs.Facts.{A}
 use Rattle.files.specs.Lookup.{Found}
 use Rattle.files.proofs.Octets.{octets}
 use Rattle.files.proofs.Lookups.{names-file, names-none}

@@ -6,7 +6,7 @@ use mir.Syntax.{w16, w32, w64}
 use mir.Val.{Fits}
 use denote.Ref.{now}
 use lib.ListN.{length}
-use Rattle.model.specs.Facts.{A}
+use Rattle.facts.specs.Facts.{A}
 use Rattle.files.specs.Lookup.{Held}
 use Rattle.files.proofs.Forks.{large-block, few-in-volume, free-blocks, long-image, has-chain}
 use Rattle.changes.proofs.Grown.{grownBase, grown-few, grown-fillable, grown-stored, grown-fits, grown-most, grown-stands, grown-written}

@@ -5,7 +5,7 @@ use mathlib.Core.Bool.{true}
 use native.Mathlib.Omega.{arith}
 use denote.Ref.{now}
 use lib.ListN.{length}
-use Rattle.model.specs.Bytes.{Bytes}
+use Rattle.facts.specs.Bytes.{Bytes}
 use Rattle.model.specs.Map.{mapEntry, runs, chainBlocks}
 use Rattle.laws.proofs.Entries.{length-setEntry}
 use Rattle.chains.proofs.Chains.{at}

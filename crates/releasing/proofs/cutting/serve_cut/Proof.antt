@@ -3,8 +3,8 @@ use mathlib.Core.Path.{_≡_, sym, _∙_}
 use mathlib.Core.Bool.{false}
 use native.Mathlib.Omega.{arith}
 use denote.Ref.{now}
-use Rattle.model.specs.Bytes.{Bytes, byte}
-use Rattle.model.specs.Facts.{isLocked}
+use Rattle.facts.specs.Bytes.{Bytes, byte}
+use Rattle.facts.specs.Facts.{isLocked}
 use Rattle.model.specs.Directory.{flagsLock}
 use Rattle.model.specs.Calls.{Fits}
 use Rattle.model.specs.Calls.Call.{cut}

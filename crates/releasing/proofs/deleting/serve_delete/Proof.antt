@@ -2,8 +2,8 @@
 use mathlib.Core.Path.{_≡_, sym, _∙_}
 use mathlib.Core.Bool.{false}
 use denote.Ref.{now}
-use Rattle.model.specs.Bytes.{Bytes}
-use Rattle.model.specs.Facts.{isLocked}
+use Rattle.facts.specs.Bytes.{Bytes}
+use Rattle.facts.specs.Facts.{isLocked}
 use Rattle.model.specs.Calls.{Fits}
 use Rattle.model.specs.Calls.Call.{delete}
 use Rattle.files.specs.Lookup.{Found}

@@ -4,7 +4,7 @@ use mathlib.Core.Path.{_≡_, _∙_}
 use native.Mathlib.Omega.{arith}
 use mir.Syntax.{w16}
 use mir.Val.{Fits}
-use Rattle.model.specs.Facts.{A, freeCount}
+use Rattle.facts.specs.Facts.{A, freeCount}
 use Rattle.model.specs.declared.Fork.the-variants.{Data}
 use Rattle.files.proofs.Forks.{large-block, long-image}
 use Rattle.removals.proofs.Owned.{few, some-file, fork-runs}

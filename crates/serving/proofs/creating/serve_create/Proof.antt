@@ -5,8 +5,8 @@ use mathlib.Core.Bool.{false}
 use native.Mathlib.Omega.{arith}
 use denote.Ref.{now}
 use lib.ListN.{length}
-use Rattle.model.specs.Bytes.{Bytes}
-use Rattle.model.specs.Facts.{isLocked}
+use Rattle.facts.specs.Bytes.{Bytes}
+use Rattle.facts.specs.Facts.{isLocked}
 use Rattle.model.specs.Directory.{padded}
 use Rattle.model.specs.Calls.{Fits}
 use Rattle.model.specs.Calls.Call.{create}

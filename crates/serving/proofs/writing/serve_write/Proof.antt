@@ -4,9 +4,9 @@ use mathlib.Core.Bool.{false}
 use native.Mathlib.Omega.{arith}
 use denote.Ref.{now}
 use lib.ListN.{length}
-use Rattle.model.specs.Bytes.{byte}
+use Rattle.facts.specs.Bytes.{byte}
 use Rattle.model.specs.Directory.{flagsLock}
-use Rattle.model.specs.Facts.{isLocked}
+use Rattle.facts.specs.Facts.{isLocked}
 use Rattle.directory.specs.Cursor.{bytesAt}
 use Rattle.files.specs.Lookup.{Found, Held}
 use Rattle.files.proofs.Octets.{octets}
