@@ -1,5 +1,5 @@
 -- Laws of the checks' order: the number that each part of the check gives, and the number that all parts give together.
-use Prim.Native.Nat.{ℕ, _+_, _-_, _/_, _<_}
+use Prim.Native.Nat.{ℕ, _+_, _/_, _<_}
 use mathlib.Core.Path.{_≡_, sym, ap, _∙_}
 use mathlib.Core.Bool.{Bool, true, false, _&&_, and-false}
 use mathlib.Core.List.{List}
@@ -25,7 +25,7 @@ use Rattle.limits.specs.Limits.{factsNumber, Sized}
 use Rattle.limits.proofs.Firing.{fires-here, passes-here}
 use Rattle.limits.proofs.Numbered.{long-blocks}
 
--- ---- one check and those behind it
+-- ---- some checks and those behind them
 
 -- some checks and the rest: the number of the first ones, unless it is 0
 two-some : (t u : Bool) (i j r n : ℕ) → n ≡ orElse t i (orElse u j 0) → (n ≡ 0 → ⊥) → n ≡ orElse t i (orElse u j r)

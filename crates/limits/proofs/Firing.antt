@@ -1,7 +1,7 @@
 -- One check and those behind it.
-use Prim.Native.Nat.{ℕ, _-_}
+use Prim.Native.Nat.{ℕ}
 use mathlib.Core.Path.{_≡_, refl}
-use mathlib.Core.Bool.{Bool, true, false, not}
+use mathlib.Core.Bool.{Bool, true, false}
 use Rattle.model.specs.Check.{orElse}
 use Rattle.model.proofs.Lists.{so-not}
 

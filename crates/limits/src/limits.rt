@@ -1,6 +1,5 @@
 // Checks 1 to 4: what the length of the image and the volume facts may be.
 ghost use mathlib.Core.Path.{_≡_};
-ghost use lib.ListN.{length};
 ghost use Rattle.model.specs.Check.{fires1, fires3};
 ghost use Rattle.limits.specs.Limits.{Sized, factsNumber};
 use facts::VolumeFacts;

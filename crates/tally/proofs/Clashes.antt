@@ -1,5 +1,5 @@
 -- Laws of check 7: file numbers tested, and entries that share a number or a name.
-use Prim.Native.Nat.{ℕ, zero, _-_}
+use Prim.Native.Nat.{ℕ}
 use mathlib.Core.Path.{_≡_, refl}
 use mathlib.Core.Bool.{Bool, true, false, not, _&&_, _||_, and-false}
 use mathlib.Core.List.{List, [], _∷_}
