@@ -8,7 +8,7 @@ use native.Mathlib.Omega.{arith}
 use lib.ListN.{length}
 use lib.Dec.{ltb}
 use Rattle.model.specs.Lists.{any}
-use Rattle.facts.specs.Bytes.{byte, Bytes}
+use Rattle.numbers.specs.Bytes.{byte, Bytes}
 use Rattle.facts.specs.Facts.{factsOf, A, freeCount, isLocked}
 use Rattle.model.specs.Directory.{directory, forkOf, flagsLock, blockCount, named}
 use Rattle.model.specs.Check.{orElse}

@@ -7,7 +7,7 @@ use native.Mathlib.Omega.{arith}
 use lib.ListN.{length}
 use borrow.Author.Tests.{le-leb, lt-leb, le-ltb, lt-ltb}
 use Rattle.model.specs.Lists.{any}
-use Rattle.facts.specs.Bytes.{Bytes}
+use Rattle.numbers.specs.Bytes.{Bytes}
 use Rattle.facts.specs.Facts.{A, S}
 use Rattle.model.specs.Map.{mapEntry}
 use Rattle.model.specs.Directory.{directory, entryIn, noEntry, forkOf, blockCount, forkBlocks, named}

@@ -1,7 +1,7 @@
 // The zeros that a refusal gives beside its number.
 ghost use mathlib.Core.Path.{_≡_};
 ghost use Rattle.facts.specs.Facts.{noFacts};
-ghost use Rattle.facts.specs.Bytes.{zeros};
+ghost use Rattle.numbers.specs.Bytes.{zeros};
 ghost use Rattle.model.specs.Directory.{forkIn, noEntry};
 use facts::AllocationBlock;
 use facts::LogicalBlock;

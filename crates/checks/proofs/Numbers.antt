@@ -9,7 +9,7 @@ use lib.Seq.{getD-drop}
 use lib.Dec.{eqb}
 use borrow.Author.Tests.{eq-eqb, ne-eqb}
 use Rattle.model.specs.Lists.{every, distinct}
-use Rattle.facts.specs.Bytes.{be16, Bytes}
+use Rattle.numbers.specs.Bytes.{be16, Bytes}
 use Rattle.facts.specs.Facts.{factsIn, factsOf, dirStart, dirLength, N, S, nextNumber, blocksIn}
 use Rattle.model.specs.Map.{mapEntry}
 use Rattle.model.specs.Directory.{directory, forksIn}

@@ -6,7 +6,7 @@ use native.Mathlib.Omega.{arith}
 use lib.ListN.{length, take, drop, getD}
 use lib.Seq.{drop-drop}
 use Rattle.model.specs.Lists.{flat}
-use Rattle.facts.specs.Bytes.{byte, part}
+use Rattle.numbers.specs.Bytes.{byte, part}
 use Rattle.facts.specs.Facts.{dirStart, dirLength}
 use Rattle.model.specs.Directory.{padded, entries, cutBlocks, directoryBlocks}
 use Rattle.facts.specs.declared.VolumeFacts.{VolumeFacts}

@@ -7,7 +7,7 @@ use native.Mathlib.Omega.{arith}
 use lib.ListN.{length, take, drop, length-append}
 use lib.Seq.{sets, paste, drop-drop}
 use Rattle.model.specs.Lists.{every, any, distinct, flat}
-use Rattle.facts.specs.Bytes.{u32, part}
+use Rattle.numbers.specs.Bytes.{u32, part}
 use Rattle.facts.specs.Facts.{dirStart, dirLength}
 use Rattle.model.specs.Directory.{entries, readAt, cutBlocks, directoryBlocks, listing, forkPlace, named}
 use Rattle.model.specs.Check.{goodEntry, sameNames, fires6}

@@ -3,7 +3,7 @@ ghost use mathlib.Core.Path.{_≡_};
 ghost use Prim.Native.Nat.{_+_, _≤_};
 ghost use lib.ListN.{length, drop};
 ghost use lib.Seq.{paste};
-ghost use Rattle.facts.specs.Bytes.{zeros, part};
+ghost use Rattle.numbers.specs.Bytes.{zeros, part};
 ghost use Rattle.model.specs.Directory.{readEnd};
 ghost use Rattle.directory.specs.Cursor.{Stands, Lies};
 ghost use Rattle.entries.specs.Blocks.{Block, Removes};

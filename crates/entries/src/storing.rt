@@ -4,7 +4,7 @@ ghost use mathlib.Core.List.{_++_};
 ghost use Prim.Native.Nat.{_+_, _≤_};
 ghost use lib.ListN.{length};
 ghost use lib.Seq.{sets};
-ghost use Rattle.facts.specs.Bytes.{u16, u32};
+ghost use Rattle.numbers.specs.Bytes.{u16, u32};
 ghost use Rattle.model.specs.Directory.{forkPlace};
 ghost use Rattle.directory.specs.Cursor.{Stands};
 use directory::EntryAt;

@@ -2,7 +2,7 @@
 use Prim.Native.Nat.{ℕ}
 use mathlib.Core.Path.{_≡_}
 use mathlib.Core.List.{List}
-use Rattle.facts.specs.Bytes.{byte, be16, be32, part}
+use Rattle.numbers.specs.Bytes.{byte, be16, be32, part}
 use Rattle.facts.specs.Facts.{factsIn}
 use Rattle.facts.specs.declared.VolumeFacts.{VolumeFacts}
 

@@ -4,7 +4,7 @@ use mathlib.Core.Bool.{Bool, _||_}
 use mathlib.Core.List.{List}
 use lib.ListN.{length, take, drop}
 use lib.Dec.{eqb}
-use Rattle.facts.specs.Bytes.{byte, be16, be32, zeros, part}
+use Rattle.numbers.specs.Bytes.{byte, be16, be32, zeros, part}
 use Rattle.facts.specs.declared.VolumeFacts.{VolumeFacts}
 
 -- The volume information: 64 bytes.

@@ -1,10 +1,6 @@
-// Numbers, volume facts and the two kinds of block number: document 01's volume facts, and the code that reads them.
+// Volume facts and the two kinds of block number: document 01's volume facts, and the code that reads them.
 mod block_numbers;
-mod numbers;
 mod volume_facts;
-
-pub use numbers::be16_at;
-pub use numbers::be32_at;
 
 // The number of an allocation block: 2 to N + 1.
 pub struct AllocationBlock(pub u16);

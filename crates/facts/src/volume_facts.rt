@@ -2,12 +2,12 @@
 ghost use mathlib.Core.Path.{_≡_};
 ghost use Prim.Native.Nat.{_+_, _≤_};
 ghost use lib.ListN.{length};
-ghost use Rattle.facts.specs.Bytes.{part};
+ghost use Rattle.numbers.specs.Bytes.{part};
 ghost use Rattle.facts.specs.Facts.{factsOf};
 use crate::LogicalBlock;
 use crate::VolumeFacts;
-use crate::numbers::be16_at;
-use crate::numbers::be32_at;
+use numbers::be16_at;
+use numbers::be32_at;
 
 // The 27 bytes behind a volume name's length byte.
 fn name_at(s: &[u8], at: usize) -> [u8; 27]

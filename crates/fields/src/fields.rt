@@ -2,16 +2,16 @@
 ghost use mathlib.Core.Path.{_≡_};
 ghost use Prim.Native.Nat.{_+_, _≤_};
 ghost use lib.ListN.{length, drop};
-ghost use Rattle.facts.specs.Bytes.{part};
+ghost use Rattle.numbers.specs.Bytes.{part};
 ghost use Rattle.model.specs.Directory.{numberIn, forkOf, forkIn, wide, entryIn};
 ghost use Rattle.directory.specs.Cursor.{bytesAt, Stands};
 use directory::EntryAt;
 use facts::AllocationBlock;
-use facts::be16_at;
-use facts::be32_at;
 use model::DirectoryEntry;
 use model::Fork;
 use model::ForkFacts;
+use numbers::be16_at;
+use numbers::be32_at;
 
 // The file number.
 pub fn number_of(image: &[u8], e: EntryAt) -> u32

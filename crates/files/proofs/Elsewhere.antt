@@ -8,7 +8,7 @@ use native.Mathlib.Omega.{arith}
 use lib.ListN.{length}
 use lib.Seq.{sets}
 use Rattle.model.specs.Lists.{distinct, flat}
-use Rattle.facts.specs.Bytes.{u32}
+use Rattle.numbers.specs.Bytes.{u32}
 use Rattle.facts.specs.Facts.{factsOf, dirStart, dirLength}
 use Rattle.model.specs.Directory.{padded, listing, directory, directoryBlocks, forkPlace, named}
 use Rattle.model.specs.Check.{Accepted, sameNames}

@@ -3,3 +3,4 @@ pub mod Locked
 pub mod Lookups
 pub mod Forks
 pub mod Elsewhere
+pub mod Owned

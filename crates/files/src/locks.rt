@@ -1,6 +1,6 @@
 // Locks of the volume and of a file.
 ghost use mathlib.Core.Path.{_≡_};
-ghost use Rattle.facts.specs.Bytes.{byte};
+ghost use Rattle.numbers.specs.Bytes.{byte};
 ghost use Rattle.model.specs.Directory.{flagsLock};
 ghost use Rattle.facts.specs.Facts.{isLocked};
 ghost use Rattle.directory.specs.Cursor.{bytesAt, Stands};

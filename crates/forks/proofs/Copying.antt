@@ -10,7 +10,7 @@ use mir.Syntax.{w16, w64}
 use mir.Val.{Fits}
 use lib.ListN.{length, getD, set, take, drop, length-drop}
 use lib.Seq.{paste, paste-suc, getD-drop, take-at, take-add, drop-drop, take-append-le, drop-append-le, drop-append-add, length-take-le}
-use Rattle.facts.specs.Bytes.{byte, part}
+use Rattle.numbers.specs.Bytes.{byte, part}
 use Rattle.facts.specs.Facts.{factsOf, N, A, S, blockByte}
 use Rattle.model.specs.Map.{mapEntry, runs, chainBlocks}
 use Rattle.model.specs.Directory.{directory, forkOf, blockCount, forkBlocks}

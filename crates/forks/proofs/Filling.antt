@@ -9,7 +9,7 @@ use native.Mathlib.Nat.{add-assoc, mul-le-mul-right, div-add-mod', div-lt-iff-lt
 use lib.ListN.{length, getD, take, drop, length-drop, take-append-drop}
 use lib.Seq.{paste, paste-zero, take-at, drop-at, drop-drop, take-add, take-take, take-append-le, drop-append-le, take-append-add, drop-append-add, length-take-le, length-paste, take-length, drop-length}
 use Rattle.model.specs.Lists.{times}
-use Rattle.facts.specs.Bytes.{part}
+use Rattle.numbers.specs.Bytes.{part}
 use Rattle.facts.specs.Facts.{blockByte}
 use Rattle.model.specs.Map.{mapEntry, runs, chainBlocks}
 use Rattle.model.specs.Calls.{bytesOf, putBlocks, putContent}

@@ -4,7 +4,7 @@ ghost use mathlib.Core.List.{_++_};
 ghost use Prim.Native.Nat.{_+_, _*_, _≤_, min};
 ghost use lib.ListN.{length, drop};
 ghost use lib.Seq.{paste};
-ghost use Rattle.facts.specs.Bytes.{part};
+ghost use Rattle.numbers.specs.Bytes.{part};
 ghost use Rattle.model.specs.Calls.{forkBytes, putContent, readCount, copied};
 ghost use Rattle.model.specs.Map.{mapEntry, chainBlocks};
 ghost use Rattle.forks.specs.Content.{Copyable, Fillable};

@@ -9,7 +9,7 @@ use native.Mathlib.Nat.{mul-le-mul-right}
 use lib.ListN.{length, getD, take, drop, length-append, length-take, length-drop}
 use lib.Seq.{sets}
 use Rattle.model.specs.Lists.{any, keep, placeOf, flat, firstOr0, times}
-use Rattle.facts.specs.Bytes.{u16, u32, zeros, part, Bytes}
+use Rattle.numbers.specs.Bytes.{u16, u32, zeros, part, Bytes}
 use Rattle.facts.specs.Facts.{factsOf, factsIn, dirStart, dirLength, N, A, S, nextNumber, freeCount}
 use Rattle.model.specs.Map.{mapEntry, freeBlocks, putChain, putFree}
 use Rattle.model.specs.Directory.{entrySize, endsAt, nextPlace, readAt, entries, readEnd, cutBlocks, directoryBlocks, listing, directory, forkPlace, forkOf, forksIn, blockCount, forkBlocks, named}

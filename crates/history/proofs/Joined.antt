@@ -8,7 +8,7 @@ use mathlib.Core.Logic.{inl, inr}
 use native.Mathlib.Omega.{arith}
 use lib.ListN.{length, take, drop}
 use Rattle.model.specs.Lists.{any, times, flat}
-use Rattle.facts.specs.Bytes.{byte, u16, u32}
+use Rattle.numbers.specs.Bytes.{byte, u16, u32}
 use Rattle.facts.specs.Facts.{factsOf, dirStart, dirLength, N, A, S}
 use Rattle.model.specs.Directory.{directory, nameIn, named}
 use Rattle.model.specs.Check.{Accepted}

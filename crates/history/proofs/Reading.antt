@@ -7,7 +7,7 @@ use mathlib.Core.List.{List, [], _∷_, _++_, map}
 use native.Mathlib.Omega.{arith}
 use lib.ListN.{length, getD, length-map}
 use Rattle.model.specs.Lists.{Reordered, none, next, swap, then}
-use Rattle.facts.specs.Bytes.{byte, be32}
+use Rattle.numbers.specs.Bytes.{byte, be32}
 use Rattle.facts.specs.Facts.{factsOf, N, A, S, nextNumber, freeCount, withCounts}
 use Rattle.model.specs.Map.{mapEntry}
 use Rattle.model.specs.Directory.{directory, numberIn, nameIn, finderIn, forkOf, forksIn, blockCount}

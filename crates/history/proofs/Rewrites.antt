@@ -7,7 +7,7 @@ use native.Mathlib.Omega.{arith}
 use lib.ListN.{length, getD}
 use borrow.Author.Tests.{not-false}
 use Rattle.model.specs.Lists.{every, any, first, firstOr0, Reordered}
-use Rattle.facts.specs.Bytes.{byte, be32}
+use Rattle.numbers.specs.Bytes.{byte, be32}
 use Rattle.facts.specs.Facts.{factsOf, N, A, S, nextNumber, freeCount, withCounts}
 use Rattle.model.specs.Map.{mapEntry}
 use Rattle.model.specs.Directory.{directory, numberIn, nameIn, finderIn, forkOf, forksIn, blockCount, forkBlocks, named}

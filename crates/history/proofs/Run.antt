@@ -7,7 +7,7 @@ use native.Mathlib.Omega.{arith}
 use native.Mathlib.Decide.{ℕ-discrete}
 use lib.ListN.{length}
 use lib.Dec.{eqb}
-use Rattle.facts.specs.Bytes.{Bytes}
+use Rattle.numbers.specs.Bytes.{Bytes}
 use Rattle.facts.specs.Facts.{factsOf, dirStart, dirLength}
 use Rattle.model.specs.Check.{Accepted}
 use Rattle.model.specs.Calls.{Call, refusal, change, after, answer, Fits, Does}

@@ -13,7 +13,7 @@ use Rattle.model.specs.Check.{Accepted}
 use Rattle.model.specs.Calls.{Call, grown, needed, fewest, entryNamed, forkBytes, onNamed, rewritten, withFork, withDirectory, withFree, written, change}
 use Rattle.model.specs.Calls.Call.{write}
 use Rattle.history.specs.History.{Held, History, heldIn, writes, changedFork, onCalled, moves, namedBlocks, blocksNamed, OnlyNamed, Agrees}
-use Rattle.facts.specs.Bytes.{overwritten}
+use Rattle.numbers.specs.Bytes.{overwritten}
 use Rattle.facts.specs.declared.VolumeFacts.{VolumeFacts}
 use Rattle.model.specs.declared.ForkFacts.{ForkFacts}
 use Rattle.model.specs.declared.Fork.{Fork}

@@ -8,7 +8,7 @@ use mathlib.Core.Logic.{_↔_}
 use lib.ListN.{length, getD, take, drop}
 use lib.Dec.{eqb, ltb}
 use Rattle.model.specs.Lists.{any, keep, first, Reordered, times}
-use Rattle.facts.specs.Bytes.{byte, be32, half, Within, overwritten, Bytes}
+use Rattle.numbers.specs.Bytes.{byte, be32, half, Within, overwritten, Bytes}
 use Rattle.facts.specs.Facts.{factsOf, dirStart, dirLength, N, A, S, nextNumber, freeCount, isLocked, blockByte, withCounts, noFacts}
 use Rattle.model.specs.Map.{mapEntry}
 use Rattle.model.specs.Directory.{directory, numberIn, nameIn, finderIn, forkOf, wide, noEntry, flagsLock, blockCount, forkBlocks, sameName}

@@ -10,7 +10,7 @@ use lib.ListN.{length, take, drop, drop-of-length-le}
 use lib.Seq.{take-all}
 use lib.Dec.{eqb}
 use borrow.Author.Tests.{ne-eqb}
-use Rattle.facts.specs.Bytes.{Bytes}
+use Rattle.numbers.specs.Bytes.{Bytes}
 use Rattle.model.specs.Lists.{firstOr0}
 use Rattle.model.specs.Map.{mapEntry, setEntry, behind, runs, chainBlocks, freeBlocks, putChain, putFree}
 use Rattle.laws.proofs.Entries.{mapEntry-setEntry, mapEntry-setEntry-other}

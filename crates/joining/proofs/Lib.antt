@@ -1,3 +1,2 @@
-pub mod Freeing
 pub mod Linking
 pub mod Changes

@@ -9,7 +9,7 @@ use lib.ListN.{length, getD, set, take, drop}
 use lib.Seq.{set-getD}
 use lib.Dec.{eqb}
 use borrow.Author.Tests.{eq-eqb, ne-eqb}
-use Rattle.facts.specs.Bytes.{Bytes}
+use Rattle.numbers.specs.Bytes.{Bytes}
 use Rattle.model.specs.Lists.{keep, times}
 use Rattle.model.specs.Map.{entryByte, joined, firstByte, secondByte, mapEntry, setEntry, behind, runs, chainBlocks, freeBlocks, putChain}
 use Rattle.laws.proofs.Entries.{length-setEntry, mapEntry-setEntry-other}

@@ -4,7 +4,7 @@ use Prim.Native.Nat.{ℕ, zero, suc, _+_, _≤_, _<_}
 use native.Mathlib.Omega.{arith}
 use lib.ListN.{length, take, drop, set, take-append-drop}
 use lib.Seq.{sets, paste}
-use Rattle.facts.specs.Bytes.{be16, be32, u16, u32, zeros, part, Bytes}
+use Rattle.numbers.specs.Bytes.{be16, be32, u16, u32, zeros, part, Bytes}
 use Rattle.facts.specs.Facts.{blockByte}
 use Rattle.model.specs.Map.{setEntry, behind, putChain, putFree}
 use Rattle.model.specs.Calls.{bytesOf, putBlocks, putContent}

@@ -89,7 +89,7 @@ fn list(image: &[u8]) {
     let files = checked.facts.files as u64;
     let mut place: u64 = 0;
     while place < files {
-        let found = answering::serve_entry(image, checked.facts, place);
+        let found = telling::serve_entry(image, checked.facts, place);
         print_file(found.entry);
         place += 1;
     }

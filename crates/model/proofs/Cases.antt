@@ -5,7 +5,7 @@ use mathlib.Core.List.{List, [], _∷_, _++_}
 use lib.ListN.{take, drop, length, take-append-drop}
 use lib.Seq.{drop-drop}
 use Rattle.model.specs.Lists.{every, any, distinct, keep, first, placeOf, flat, from, times, firstOr0, same}
-use Rattle.facts.specs.Bytes.{part, be16, be32, firstOf}
+use Rattle.numbers.specs.Bytes.{part, be16, be32, firstOf}
 use Rattle.facts.specs.Facts.{factsIn, factsOf, isLocked, noFacts}
 use Rattle.model.specs.Map.{joined, firstByte, secondByte, mapEntry, setEntry, isBlock, sortOf, isBad, runs, chainBlocks, freeBlocks, behind, putChain, putFree}
 use Rattle.model.specs.Directory.{padded, entrySize, inUse, endsAt, nextPlace, readAt, entries, readEnd, cutBlocks, directoryBlocks, listing, directory, numberIn, nameIn, finderIn, forkIn, forkOf, wide, entryIn, noEntry, flagsLock, forksIn, blockCount, forkBlocks, ownedBlocks, fold, folded, sameName, named}

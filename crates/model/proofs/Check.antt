@@ -11,7 +11,7 @@ use lib.ListN.{length, getD}
 use lib.Dec.{eqb, leb, ltb}
 use borrow.Author.Tests.{eqb-true, eqb-false, eq-eqb, ne-eqb, ltb-true, ltb-false, lt-ltb, le-ltb, leb-true, le-leb, not-false}
 use Rattle.model.specs.Lists.{every, distinct, times}
-use Rattle.facts.specs.Bytes.{byte}
+use Rattle.numbers.specs.Bytes.{byte}
 use Rattle.facts.specs.Facts.{factsOf, dirStart, dirLength, N, A, S, nextNumber, freeCount, blocksIn}
 use Rattle.model.specs.Map.{mapEntry, sortOf, isBad, Chain, runs, chainBlocks, freeBlocks}
 use Rattle.model.specs.Directory.{entrySize, directory, numberIn, nameIn, forksIn, blockCount, forkBlocks, ownedBlocks}

@@ -7,7 +7,7 @@ use lib.ListN.{length, getD, take, drop, replicate}
 use lib.Seq.{sets, paste}
 use lib.Dec.{eqb, leb, ltb}
 use Rattle.model.specs.Lists.{any, keep, first, placeOf, flat, firstOr0}
-use Rattle.facts.specs.Bytes.{byte, u16, u32, zeros, part, Bytes, firstOf}
+use Rattle.numbers.specs.Bytes.{byte, u16, u32, zeros, part, Bytes, firstOf}
 use Rattle.facts.specs.Facts.{factsOf, dirStart, dirLength, N, A, S, nextNumber, freeCount, isLocked, blockByte, noFacts}
 use Rattle.model.specs.Map.{mapEntry, freeBlocks, putChain, putFree}
 use Rattle.model.specs.Directory.{padded, entries, readEnd, directoryBlocks, directory, forkPlace, forkOf, entryIn, noEntry, flagsLock, blockCount, forkBlocks, named}

@@ -6,7 +6,7 @@ use mathlib.Core.List.{List, [], _∷_, _++_, map}
 use lib.ListN.{length, take, drop, replicate}
 use lib.Seq.{paste}
 use Rattle.model.specs.Lists.{flat, from}
-use Rattle.facts.specs.Bytes.{byte, u16, u32, zeros, part}
+use Rattle.numbers.specs.Bytes.{byte, u16, u32, zeros, part}
 use Rattle.facts.specs.Facts.{factsOf, blocksIn, noFacts}
 use Rattle.model.specs.Map.{mapEntry}
 use Rattle.model.specs.Directory.{noEntry}

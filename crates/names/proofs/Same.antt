@@ -9,7 +9,7 @@ use lib.Seq.{drop-cons}
 use lib.Dec.{eqb}
 use borrow.Author.Tests.{eq-eqb, ne-eqb}
 use Rattle.model.specs.Lists.{same}
-use Rattle.facts.specs.Bytes.{byte}
+use Rattle.numbers.specs.Bytes.{byte}
 use Rattle.model.specs.Directory.{fold, folded, sameName}
 use Rattle.model.proofs.Lists.{not-so}
 use Rattle.model.proofs.Names.{same-name-true}

@@ -7,7 +7,7 @@ use native.Mathlib.Nat.{add-zero, suc-add, zero-add}
 use native.Mathlib.Numerals.{add-one}
 use lib.ListN.{length, set, length-append, length-replicate}
 use lib.Seq.{sets, sets-eq, paste, paste-suc, length-paste, take-length}
-use Rattle.facts.specs.Bytes.{byte, u16, u32, zeros, part}
+use Rattle.numbers.specs.Bytes.{byte, u16, u32, zeros, part}
 use Rattle.model.specs.Directory.{padded, entries, readEnd}
 use Rattle.model.specs.Calls.{newEntry, filled}
 use Rattle.laws.proofs.Entry.{new-length}

@@ -8,7 +8,7 @@ use lib.ListN.{length, take, drop}
 use lib.Seq.{paste, drop-drop, take-take, take-all}
 use borrow.Author.Tests.{not-false, le-leb, lt-leb}
 use Rattle.model.specs.Lists.{every, any, flat}
-use Rattle.facts.specs.Bytes.{zeros, part}
+use Rattle.numbers.specs.Bytes.{zeros, part}
 use Rattle.facts.specs.Facts.{dirStart, dirLength}
 use Rattle.model.specs.Directory.{readAt, entries, readEnd, cutBlocks, directoryBlocks, listing}
 use Rattle.model.specs.Check.{goodEntry, fires6}

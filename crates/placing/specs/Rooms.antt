@@ -5,7 +5,7 @@ use mathlib.Core.Bool.{true, false}
 use mathlib.Core.List.{List}
 use lib.ListN.{drop}
 use Rattle.model.specs.Lists.{any}
-use Rattle.facts.specs.Bytes.{part}
+use Rattle.numbers.specs.Bytes.{part}
 use Rattle.model.specs.Directory.{readEnd, cutBlocks}
 use Rattle.model.specs.Calls.{hasRoom}
 use Rattle.placing.specs.declared.Room.{Room}

@@ -4,7 +4,7 @@ ghost use mathlib.Core.List.{[], _∷_, _++_};
 ghost use Prim.Native.Nat.{_+_, _≤_};
 ghost use lib.ListN.{length};
 ghost use lib.Seq.{paste};
-ghost use Rattle.facts.specs.Bytes.{part};
+ghost use Rattle.numbers.specs.Bytes.{part};
 ghost use Rattle.model.specs.Directory.{padded, entries, readEnd};
 ghost use Rattle.model.specs.Calls.{newEntry, filled};
 ghost use Rattle.directory.specs.Cursor.{Passes};

@@ -1,11 +1,11 @@
 // The records of the calls: each reads its fields, makes the call and prints its line. False ends the run.
 ghost use mathlib.Core.Path.{_≡_};
 ghost use lib.ListN.{length};
-use crate::input;
-use crate::input::Field;
-use crate::input::ForkField;
-use crate::line;
 use model::Fork;
+use tape::input;
+use tape::input::Field;
+use tape::input::ForkField;
+use tape::line;
 
 // The most bytes of a read's buffer.
 const MOST_READ: usize = 65_535;

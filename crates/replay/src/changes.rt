@@ -1,11 +1,11 @@
 // The records of the calls that change the image: each reads its fields, makes the call and prints its line. False ends the run.
 ghost use mathlib.Core.Path.{_≡_};
 ghost use lib.ListN.{length};
-use crate::input;
-use crate::input::DateField;
-use crate::input::Field;
-use crate::input::ForkField;
-use crate::line;
+use tape::input;
+use tape::input::DateField;
+use tape::input::Field;
+use tape::input::ForkField;
+use tape::line;
 
 // The most bytes of a write.
 const MOST_WRITTEN: usize = 65_535;

@@ -4,11 +4,10 @@ ghost use lib.ListN.{length};
 
 mod calls;
 mod changes;
-mod input;
-mod line;
 
-use input::Field;
-use input::Tag;
+use tape::input;
+use tape::input::Field;
+use tape::input::Tag;
 
 // The most bytes of an image.
 const MOST: usize = 419_328;

@@ -3,7 +3,7 @@ ghost use mathlib.Core.Path.{_≡_};
 ghost use Prim.Native.Nat.{_+_, _≤_};
 ghost use lib.ListN.{length};
 ghost use lib.Seq.{sets};
-ghost use Rattle.facts.specs.Bytes.{u16, u32};
+ghost use Rattle.numbers.specs.Bytes.{u16, u32};
 
 // Stores a number as its two bytes.
 pub fn put16_at(s: &mut [u8], at: usize, v: u16)

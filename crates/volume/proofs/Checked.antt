@@ -7,7 +7,7 @@ use native.Mathlib.Omega.{arith}
 use native.Mathlib.Decide.{ℕ-discrete}
 use lib.ListN.{length}
 use borrow.Author.Tests.{eq-eqb, ne-eqb}
-use Rattle.facts.specs.Bytes.{Bytes, firstOf}
+use Rattle.numbers.specs.Bytes.{Bytes, firstOf}
 use Rattle.facts.specs.Facts.{factsOf, noFacts}
 use Rattle.model.specs.Check.{fires1, from2, verdict}
 use Rattle.model.specs.Calls.{Answer, refuses, refusal, only, tellsFacts, reply, lent, change, answer, Fits, Does}

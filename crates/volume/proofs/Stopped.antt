@@ -3,7 +3,7 @@ use Prim.Native.Nat.{ℕ, _^_, _<_}
 use mathlib.Core.Path.{_≡_}
 use mathlib.Core.List.{List}
 use lib.ListN.{length}
-use Rattle.facts.specs.Bytes.{Bytes}
+use Rattle.numbers.specs.Bytes.{Bytes}
 use Rattle.model.specs.Directory.{noEntry}
 use Rattle.model.specs.Check.{verdict}
 use Rattle.model.specs.Calls.{Call, Does, Fits}

@@ -2,17 +2,17 @@
 ghost use Rattle.model.specs.Calls.{Call, Does};
 ghost use Rattle.answers.specs.Told.{toldNumber};
 use crate::checking::check;
+use creating::serve_create;
+use cutting::serve_cut;
+use deleting::serve_delete;
 use model::Fork;
-use releasing::serve_cut;
-use releasing::serve_delete;
-use serving::serve_create;
-use serving::serve_write;
+use writing::serve_write;
 
 // Puts in an empty file.
 pub fn create(image: &mut [u8], name: &[u8], finder: &[u8; 16], created: u32, changed: u32) -> u8
     ensures { λ r. ⌜ Does (Call.create (now (name .entry)) (now (finder .entry)) created changed) (now (image .entry)) (toldNumber r) (now (image .exit)) ⌝ }
 {
-    changes::whole(finder);
+    creating::whole(finder);
     let checked = check(image);
     if checked.number != 0 {
         return checked.number;

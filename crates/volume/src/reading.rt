@@ -3,8 +3,6 @@ ghost use Rattle.model.specs.Calls.{Call, Does};
 ghost use Rattle.answers.specs.Told.{toldEntry, toldFind, toldBlock, toldRead};
 use crate::checking::check;
 use answering::serve_block;
-use answering::serve_entry;
-use answering::serve_find;
 use answering::serve_read;
 use answers::BlockAnswer;
 use answers::EntryAnswer;
@@ -13,6 +11,8 @@ use answers::ReadAnswer;
 use answers::no_entry;
 use facts::AllocationBlock;
 use model::Fork;
+use telling::serve_entry;
+use telling::serve_find;
 
 // The entry at a place in directory order.
 pub fn entry(image: &[u8], place: u64) -> EntryAnswer

@@ -1,5 +1,5 @@
 -- `no_entry` meets its contract: 52 zero bytes read as its record. Assumes nothing.
-use Rattle.facts.specs.Bytes.{be16, be32, zeros}
+use Rattle.numbers.specs.Bytes.{be16, be32, zeros}
 use Rattle.model.specs.Directory.{forkOf, forkIn, wide, nameIn, finderIn, numberIn, entryIn, noEntry}
 use borrow.Author.Needs.{needs}
 use Rattle.answers.proofs.answers.no_entry.Statement.{statement}

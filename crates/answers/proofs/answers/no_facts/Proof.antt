@@ -1,6 +1,6 @@
 -- `no_facts` meets its contract: 64 zero bytes read as its record. Assumes nothing.
 use mathlib.Core.Path.{refl}
-use Rattle.facts.specs.Bytes.{be16, be32}
+use Rattle.numbers.specs.Bytes.{be16, be32}
 use Rattle.facts.specs.Facts.{factsIn, noFacts}
 use Rattle.answers.proofs.answers.no_facts.Statement.{statement}
 use Rattle.answers.proofs.answers.no_facts.Tie as tie

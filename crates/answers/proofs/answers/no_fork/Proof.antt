@@ -1,6 +1,6 @@
 -- `no_fork` meets its contract: ten zero bytes read as its record. Assumes nothing.
 use mathlib.Core.Path.{refl}
-use Rattle.facts.specs.Bytes.{be16, be32}
+use Rattle.numbers.specs.Bytes.{be16, be32}
 use Rattle.model.specs.Directory.{forkIn}
 use Rattle.answers.proofs.answers.no_fork.Statement.{statement}
 use Rattle.answers.proofs.answers.no_fork.Tie as tie

@@ -5,7 +5,7 @@ use mathlib.Core.List.{List}
 use native.Mathlib.Omega.{arith}
 use lib.ListN.{length, set, length-set}
 use lib.Seq.{paste, paste-zero}
-use Rattle.facts.specs.Bytes.{zeros}
+use Rattle.numbers.specs.Bytes.{zeros}
 use Rattle.entries.proofs.Blocks.{clear-byte}
 use Rattle.entries.proofs.removing.clear.Statement.{statement}
 use Rattle.entries.proofs.removing.clear.Tie as tie

@@ -5,7 +5,7 @@ use mathlib.Core.List.{List}
 use native.Mathlib.Omega.{arith}
 use lib.ListN.{length, set, drop, length-set}
 use lib.Seq.{paste, paste-zero}
-use Rattle.facts.specs.Bytes.{byte}
+use Rattle.numbers.specs.Bytes.{byte}
 use Rattle.entries.proofs.Blocks.{slide-byte}
 use Rattle.entries.proofs.removing.slide.Statement.{statement}
 use Rattle.entries.proofs.removing.slide.Tie as tie

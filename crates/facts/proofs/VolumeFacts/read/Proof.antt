@@ -8,7 +8,7 @@ use native.Mathlib.Omega.{arith}
 use lib.Dec.{T, ltb, lit<, lit≤}
 use lib.ListN.{length, take, drop, length-drop}
 use Rattle.facts.specs.Facts.{factsIn, factsOf}
-use Rattle.facts.proofs.Bytes.{part-to-end}
+use Rattle.numbers.proofs.Bytes.{part-to-end}
 use Rattle.facts.proofs.Facts.{facts-are}
 use borrow.Author.Needs.{needs}
 use Rattle.facts.proofs.VolumeFacts.read.Statement.{statement}

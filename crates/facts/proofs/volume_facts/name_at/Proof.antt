@@ -5,8 +5,8 @@ use mathlib.Core.Path.{_≡_, refl, sym, _∙_}
 use native.Mathlib.Omega.{arith}
 use lib.ListN.{length, take, length-set}
 use lib.Seq.{take-all}
-use Rattle.facts.specs.Bytes.{part}
-use Rattle.facts.proofs.Bytes.{copy-next}
+use Rattle.numbers.specs.Bytes.{part}
+use Rattle.numbers.proofs.Bytes.{copy-next}
 use Rattle.facts.proofs.volume_facts.name_at.Statement.{statement}
 use Rattle.facts.proofs.volume_facts.name_at.Tie as tie
 

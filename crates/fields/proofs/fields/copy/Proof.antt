@@ -4,8 +4,8 @@ use mathlib.Core.Path.{_≡_, refl, sym, _∙_}
 use native.Mathlib.Omega.{arith}
 use lib.ListN.{length, take, length-set}
 use lib.Seq.{take-all}
-use Rattle.facts.specs.Bytes.{part}
-use Rattle.facts.proofs.Bytes.{copy-next}
+use Rattle.numbers.specs.Bytes.{part}
+use Rattle.numbers.proofs.Bytes.{copy-next}
 use Rattle.fields.proofs.fields.copy.Statement.{statement}
 use Rattle.fields.proofs.fields.copy.Tie as tie
 

@@ -3,7 +3,7 @@ use mathlib.Core.Path.{_≡_, sym, ap, _∙_}
 use native.Mathlib.Nat.{add-zero}
 use lib.ListN.{drop}
 use denote.Ref.{now}
-use Rattle.facts.specs.Bytes.{be16}
+use Rattle.numbers.specs.Bytes.{be16}
 use Rattle.laws.proofs.Stores.{be16-drop, be32-drop}
 use Rattle.directory.proofs.Parts.{fork-are}
 use borrow.Author.Needs.{needs}

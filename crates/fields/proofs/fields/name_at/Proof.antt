@@ -6,7 +6,7 @@ use native.Mathlib.Omega.{arith}
 use denote.Ref.{now}
 use lib.ListN.{length, drop, length-take, length-drop}
 use lib.Seq.{length-take-le}
-use Rattle.facts.specs.Bytes.{zeros, part}
+use Rattle.numbers.specs.Bytes.{zeros, part}
 use Rattle.directory.proofs.Parts.{wide-are}
 use borrow.Author.Needs.{needs}
 use Rattle.fields.proofs.fields.name_at.Statement.{statement}

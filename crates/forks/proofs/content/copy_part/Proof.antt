@@ -4,7 +4,7 @@ use mathlib.Core.Path.{_≡_, refl, ap, _∙_}
 use native.Mathlib.Omega.{arith}
 use lib.ListN.{length, set, drop, length-set}
 use lib.Seq.{paste, paste-zero}
-use Rattle.facts.specs.Bytes.{byte}
+use Rattle.numbers.specs.Bytes.{byte}
 use Rattle.forks.proofs.Copying.{copy-byte}
 use Rattle.forks.proofs.content.copy_part.Statement.{statement}
 use Rattle.forks.proofs.content.copy_part.Tie as tie

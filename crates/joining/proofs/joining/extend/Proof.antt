@@ -6,7 +6,7 @@ use mathlib.Core.List.{_++_}
 use native.Mathlib.Omega.{arith}
 use denote.Ref.{now}
 use lib.ListN.{length, take}
-use Rattle.facts.specs.Bytes.{Bytes}
+use Rattle.numbers.specs.Bytes.{Bytes}
 use Rattle.model.specs.Lists.{firstOr0}
 use Rattle.model.specs.Map.{mapEntry, runs, chainBlocks, freeBlocks, putChain}
 use Rattle.laws.proofs.Entries.{length-setEntry}

@@ -6,7 +6,7 @@ use native.Mathlib.Omega.{arith}
 use denote.Ref.{now}
 use lib.ListN.{drop}
 use Rattle.model.specs.Lists.{any}
-use Rattle.facts.specs.Bytes.{part}
+use Rattle.numbers.specs.Bytes.{part}
 use Rattle.model.specs.Directory.{cutBlocks}
 use Rattle.model.specs.Calls.{hasRoom}
 use Rattle.placing.proofs.Rooming.{block-of, room-is, room-not, none-more}

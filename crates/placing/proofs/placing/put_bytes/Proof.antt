@@ -5,7 +5,7 @@ use mathlib.Core.List.{List}
 use native.Mathlib.Omega.{arith}
 use lib.ListN.{length, set, length-set}
 use lib.Seq.{paste, paste-zero}
-use Rattle.facts.specs.Bytes.{byte}
+use Rattle.numbers.specs.Bytes.{byte}
 use Rattle.placing.proofs.Inserting.{put-byte}
 use Rattle.placing.proofs.placing.put_bytes.Statement.{statement}
 use Rattle.placing.proofs.placing.put_bytes.Tie as tie

@@ -4,7 +4,7 @@ use mathlib.Core.Bool.{false}
 use native.Mathlib.Omega.{arith}
 use lib.ListN.{length}
 use denote.Ref.{now}
-use Rattle.facts.specs.Bytes.{Bytes}
+use Rattle.numbers.specs.Bytes.{Bytes}
 use Rattle.model.specs.Check.{fires1}
 use Rattle.checks.proofs.Numbers.{judged}
 use Rattle.limits.proofs.Numbered.{long-blocks}

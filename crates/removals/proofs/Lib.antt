@@ -1,3 +1,0 @@
-pub mod Owned
-pub mod Kept
-pub mod Freed

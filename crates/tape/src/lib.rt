@@ -1,0 +1,3 @@
+// The records of `replay`: their fields, read from standard input, and the lines that answer them.
+pub mod input;
+pub mod line;
