@@ -1,7 +1,7 @@
 -- The blocks 2 to N+1 one at a time, as a loop takes them: b is the next one.
 use Prim.Native.Nat.{ℕ, zero, suc, _+_, _-_, _≤_, _<_}
-use mathlib.Core.Path.{_≡_, refl, ap, _∙_}
-use mathlib.Core.Bool.{Bool, true, false}
+use mathlib.Core.Path.{_≡_, refl, sym, ap, _∙_}
+use mathlib.Core.Bool.{Bool, true, false, _||_, or-true, or-false, or-assoc}
 use mathlib.Core.List.{List, [], _∷_}
 use native.Mathlib.Omega.{arith}
 use lib.ListN.{length}
@@ -32,10 +32,10 @@ unfolding from any
 any-same p q zero s h = refl
 any-same p q (suc k) s h = rw (h s (omega arith) (omega arith), any-same p q k (suc s) (λ b low high. h b (omega arith) (omega arith)))
 
-pub keep-same : (p q : ℕ → Bool) (k s : ℕ) → ((b : ℕ) → s ≤ b → p b ≡ q b) → keep p (from k s) ≡ keep q (from k s)
+pub keep-same : (p q : ℕ → Bool) (k s : ℕ) → ((b : ℕ) → s ≤ b → b < s + k → p b ≡ q b) → keep p (from k s) ≡ keep q (from k s)
 unfolding from keep
 keep-same p q zero s h = refl
-keep-same p q (suc k) s h = rw (h s (omega arith), keep-same p q k (suc s) (λ b low. h b (omega arith)))
+keep-same p q (suc k) s h = rw (h s (omega arith) (omega arith), keep-same p q k (suc s) (λ b low high. h b (omega arith) (omega arith)))
 
 module _ (n b : ℕ) where
   pub onward-next : b < n + 2 → onward n b ≡ b ∷ onward n (b + 1)
@@ -57,6 +57,21 @@ module _ (p : ℕ → Bool) (n b : ℕ) where
   pub any-none : n + 2 ≤ b → any p (onward n b) ≡ false
   unfolding any
   any-none h = ap (any p) (onward-none n b h)
+
+  -- a flag u that says whether one before b passes, and u' behind it
+  module _ (u u' : Bool) where
+    pub flag-hit : b < n + 2 → p b ≡ true → u' ≡ true → (u || any p (onward n b)) ≡ (u' || any p (onward n (b + 1)))
+    flag-hit h e q = ap (λ (x : Bool). u || x) (any-hit h e) ∙ or-true u ∙ ap (λ (x : Bool). x || any p (onward n (b + 1))) (sym q)
+
+    pub flag-miss : b < n + 2 → p b ≡ false → u' ≡ u → (u || any p (onward n b)) ≡ (u' || any p (onward n (b + 1)))
+    flag-miss h e q = ap (λ (x : Bool). u || x) (any-miss h e) ∙ ap (λ (x : Bool). x || any p (onward n (b + 1))) (sym q)
+
+  pub flag-on : (u : Bool) → b < n + 2 → (u || any p (onward n b)) ≡ ((u || p b) || any p (onward n (b + 1)))
+  unfolding any
+  flag-on u h = ap (λ (bs : List ℕ). u || any p bs) (onward-next n b h) ∙ sym (or-assoc u (p b) (any p (onward n (b + 1))))
+
+  pub flag-none : (u : Bool) → n + 2 ≤ b → (u || any p (onward n b)) ≡ u
+  flag-none u h = ap (λ (x : Bool). u || x) (any-none h) ∙ or-false u
 
   -- the same for the list of those that pass
   pub keep-hit : b < n + 2 → p b ≡ true → keep p (onward n b) ≡ b ∷ keep p (onward n (b + 1))

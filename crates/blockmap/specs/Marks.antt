@@ -1,17 +1,14 @@
 -- Checks 8 to 10 as code does them: marks, one to a block, 1 for those that a fork has claimed so far.
 -- e b is the entry of block b, n is N, a is A, t are the marks.
 use Prim.Native.Nat.{ℕ}
-use mathlib.Core.Path.{_≡_}
 use mathlib.Core.Bool.{Bool, true, _&&_}
 use mathlib.Core.List.{List, [], _∷_}
-use lib.ListN.{length, getD, set}
+use lib.ListN.{getD, set}
 use lib.Dec.{eqb, ltb}
 use Rattle.model.specs.Lists.{any, from}
-use Rattle.model.specs.Map.{freeBlocks}
 use Rattle.model.specs.Directory.{forkBlocks}
 use Rattle.model.specs.Check.{goodFork}
 use Rattle.model.specs.declared.ForkFacts.{ForkFacts}
-use Rattle.blockmap.specs.declared.Census.{Census}
 
 -- none of the blocks is marked
 unfoldable pub fresh : List ℕ → List ℕ → Bool
@@ -35,8 +32,3 @@ claimAll e n a t (g ∷ gs) = claims e n a t g && claimAll e n a (marked t (fork
 -- a block without a mark has an entry above 0
 unfoldable pub unowned : (ℕ → ℕ) → ℕ → List ℕ → Bool
 unowned e n t = any (λ b. ltb 0 (e b) && eqb (getD t b 0) 0) (from n 2)
-
--- that, and the number of free blocks
-pub record Counted (e : ℕ → ℕ) (n : ℕ) (t : List ℕ) (r : Census) : Type 0 where
-  pub lost : r .unowned ≡ unowned e n t
-  pub counted : r .free ≡ length (freeBlocks e n)

@@ -1,14 +1,15 @@
-// What the map's entries say, and the checks over all of them, block by block.
+// What the map's entries say, and the checks over all of them, block by block. The map comes decoded.
 ghost use mathlib.Core.Path.{_≡_};
+ghost use mathlib.Core.Bool.{_&&_};
+ghost use lib.Dec.{eqb, ltb};
 ghost use Prim.Native.Nat.{_≤_};
 ghost use lib.ListN.{length};
-ghost use Rattle.model.specs.Map.{mapEntry, sortOf};
+ghost use Rattle.model.specs.Map.{sortOf, freeBlocks};
 ghost use Rattle.model.specs.Check.{fires5};
-ghost use Rattle.blockmap.specs.Marks.{Counted};
-use crate::Census;
+ghost use Rattle.packed.specs.Decoded.{entryIn};
+ghost use Rattle.blockmap.specs.Marks.{unowned};
 use facts::AllocationBlock;
 use model::MapValue;
-use packed::load;
 
 // What an entry of this value says on a volume of n allocation blocks. 4095, a directory inside the allocation area, is bad
 // for now.
@@ -30,18 +31,19 @@ pub fn sort_value(value: u16, n: u16) -> MapValue
     }
 }
 
-// Whether an entry is bad.
-pub fn any_bad(image: &[u8], n: u16) -> bool
-    requires { ⌜ (n ≤ 640) × (2048 ≤ length (now image)) ⌝ }
-    ensures { λ r. ⌜ r ≡ fires5 (mapEntry (now (image .entry))) n ⌝ }
+// Whether an entry is bad. All are looked at, so that the loop has no way out but its end.
+pub fn any_bad(entries: &[u16; 642], n: u16) -> bool
+    requires { ⌜ n ≤ 640 ⌝ }
+    ensures { λ r. ⌜ r ≡ fires5 (entryIn (now (entries .entry))) n ⌝ }
 {
-    let mut b: u16 = 2;
-    while b < n + 2 {
-        let value = load(image, AllocationBlock(b));
-        let sort = sort_value(value, n);
+    let end = n as usize + 2;
+    let mut found = false;
+    let mut b: usize = 2;
+    while b < end {
+        let sort = sort_value(entries[b], n);
         match sort {
             MapValue::Bad => {
-                return true;
+                found = true;
             }
             MapValue::Free => {}
             MapValue::Last => {}
@@ -49,27 +51,44 @@ pub fn any_bad(image: &[u8], n: u16) -> bool
         }
         b += 1;
     }
-    false
+    found
 }
 
-// Whether an entry above 0 is that of a block without a mark, and how many entries are 0.
-pub fn owned_and_free(image: &[u8], n: u16, marks: &[u8; 642]) -> Census
-    requires { ⌜ (n ≤ 640) × (2048 ≤ length (now image)) ⌝ }
-    ensures { λ r. ⌜ Counted (mapEntry (now (image .entry))) n (now (marks .entry)) r ⌝ }
+// Whether a block with this entry and this mark has an entry above 0 and no mark, with no branch.
+fn is_lost(value: u16, mark: u8) -> bool
+    ensures { λ r. ⌜ r ≡ (ltb 0 value && eqb mark 0) ⌝ }
 {
-    let mut unowned = false;
+    (0 < value) & (mark == 0)
+}
+
+// Whether a block with an entry above 0 has no mark.
+pub fn any_unowned(entries: &[u16; 642], n: u16, marks: &[u8; 642]) -> bool
+    requires { ⌜ n ≤ 640 ⌝ }
+    ensures { λ r. ⌜ r ≡ unowned (entryIn (now (entries .entry))) n (now (marks .entry)) ⌝ }
+{
+    let end = n as usize + 2;
+    let mut found = false;
+    let mut b: usize = 2;
+    while b < end {
+        found = found | is_lost(entries[b], marks[b]);
+        b += 1;
+    }
+    found
+}
+
+// How many entries are 0. In one loop with the marks neither would be done for several entries at once.
+pub fn free_count(entries: &[u16; 642], n: u16) -> u16
+    requires { ⌜ n ≤ 640 ⌝ }
+    ensures { λ r. ⌜ r ≡ length (freeBlocks (entryIn (now (entries .entry))) n) ⌝ }
+{
+    let end = n as usize + 2;
     let mut free: u16 = 0;
-    let mut b: u16 = 2;
-    while b < n + 2 {
-        let value = load(image, AllocationBlock(b));
-        if value == 0 {
+    let mut b: usize = 2;
+    while b < end {
+        if entries[b] == 0 {
             free += 1;
-        } else {
-            if marks[b as usize] == 0 {
-                unowned = true;
-            }
         }
         b += 1;
     }
-    Census { unowned, free }
+    free
 }

@@ -22,11 +22,12 @@ fresh-set t s v (b ∷ bs) z =
     let d : b ≡ s → ⊥ = λ q. let y : times s (s ∷ bs) ≡ 0 = rw q at z in omega (arith, times-head s bs) in
     rw (getD-set-other t s b v 0 d, fresh-set t s v bs (omega (arith, times-tail s b bs)))
 
-runs-in : (e : ℕ → ℕ) (n k s : ℕ) → isBlock n s ≡ true → runs e n (suc k) s ≡ runs e n k (e s)
+-- one step of a chain, from a block and from none
+pub runs-in : (e : ℕ → ℕ) (n k s : ℕ) → isBlock n s ≡ true → runs e n (suc k) s ≡ runs e n k (e s)
 unfolding runs
 runs-in e n k s p = rw (runs, p)
 
-runs-out : (e : ℕ → ℕ) (n k s : ℕ) → isBlock n s ≡ false → runs e n (suc k) s ≡ false
+pub runs-out : (e : ℕ → ℕ) (n k s : ℕ) → isBlock n s ≡ false → runs e n (suc k) s ≡ false
 unfolding runs
 runs-out e n k s p = rw (runs, p)
 

@@ -1,10 +1,11 @@
-// Chains: the walk with marks, the claim of a fork and the block at a place.
+// Chains: the walk with marks and the claim of a fork over a decoded map, and the block at a place of the image's map.
 ghost use mathlib.Core.Path.{_≡_};
 ghost use mathlib.Core.Bool.{true, _&&_};
 ghost use Prim.Native.Nat.{_≤_};
 ghost use lib.ListN.{length};
 ghost use Rattle.model.specs.Map.{mapEntry, runs, chainBlocks};
 ghost use Rattle.model.specs.Directory.{forkBlocks};
+ghost use Rattle.packed.specs.Decoded.{entryIn};
 ghost use Rattle.blockmap.specs.Marks.{fresh, marked, claims};
 ghost use Rattle.chains.specs.Places.{HasPlace, IsPlace};
 use facts::AllocationBlock;
@@ -13,10 +14,10 @@ use packed::load;
 
 // Whether a chain of exactly k blocks runs from s, none of which is marked. Where it does, each of its blocks is marked.
 // Each call but the last marks a block that had no mark, so there are at most n + 1 of them, whatever k is.
-pub fn walk(image: &[u8], n: u16, s: AllocationBlock, k: u16, marks: &mut [u8; 642]) -> bool
-    requires { ⌜ (n ≤ 640) × (2048 ≤ length (now image)) ⌝ }
-    ensures answer { λ r. ⌜ r ≡ (runs (mapEntry (now (image .entry))) n k (s .0) && fresh (now (marks .entry)) (chainBlocks (mapEntry (now (image .entry))) k (s .0))) ⌝ }
-    ensures after { λ r. ⌜ (r ≡ true → now (marks .exit) ≡ marked (now (marks .entry)) (chainBlocks (mapEntry (now (image .entry))) k (s .0))) ⌝ }
+pub fn walk(entries: &[u16; 642], n: u16, s: AllocationBlock, k: u16, marks: &mut [u8; 642]) -> bool
+    requires { ⌜ n ≤ 640 ⌝ }
+    ensures answer { λ r. ⌜ r ≡ (runs (entryIn (now (entries .entry))) n k (s .0) && fresh (now (marks .entry)) (chainBlocks (entryIn (now (entries .entry))) k (s .0))) ⌝ }
+    ensures after { λ r. ⌜ (r ≡ true → now (marks .exit) ≡ marked (now (marks .entry)) (chainBlocks (entryIn (now (entries .entry))) k (s .0))) ⌝ }
 {
     let b = s.0;
     if k == 0 {
@@ -33,15 +34,15 @@ pub fn walk(image: &[u8], n: u16, s: AllocationBlock, k: u16, marks: &mut [u8; 6
         return false;
     }
     marks[place] = 1;
-    let next = AllocationBlock(load(image, AllocationBlock(b)));
-    walk(image, n, next, k - 1, marks)
+    let next = entries[place];
+    walk(entries, n, AllocationBlock(next), k - 1, marks)
 }
 
 // Whether a fork is good, by check 8, and has no marked block. Where it is so, each of its blocks is marked.
-pub fn claim_fork(image: &[u8], n: u16, a: u32, g: ForkFacts, marks: &mut [u8; 642]) -> bool
-    requires { ⌜ (n ≤ 640) × (512 ≤ a) × (2048 ≤ length (now image)) ⌝ }
-    ensures answer { λ r. ⌜ r ≡ claims (mapEntry (now (image .entry))) n a (now (marks .entry)) g ⌝ }
-    ensures after { λ r. ⌜ (r ≡ true → now (marks .exit) ≡ marked (now (marks .entry)) (forkBlocks (mapEntry (now (image .entry))) a g)) ⌝ }
+pub fn claim_fork(entries: &[u16; 642], n: u16, a: u32, g: ForkFacts, marks: &mut [u8; 642]) -> bool
+    requires { ⌜ (n ≤ 640) × (512 ≤ a) ⌝ }
+    ensures answer { λ r. ⌜ r ≡ claims (entryIn (now (entries .entry))) n a (now (marks .entry)) g ⌝ }
+    ensures after { λ r. ⌜ (r ≡ true → now (marks .exit) ≡ marked (now (marks .entry)) (forkBlocks (entryIn (now (entries .entry))) a g)) ⌝ }
 {
     let start = g.start;
     let logical = g.logical;
@@ -66,7 +67,7 @@ pub fn claim_fork(image: &[u8], n: u16, a: u32, g: ForkFacts, marks: &mut [u8; 6
     if (n as u32) < k {
         return false;
     }
-    walk(image, n, AllocationBlock(first), k as u16, marks)
+    walk(entries, n, AllocationBlock(first), k as u16, marks)
 }
 
 // The block at a place of the chain that runs from s, counted from 0.

@@ -4,9 +4,10 @@ use mathlib.Core.Path.{_≡_}
 use mathlib.Core.Bool.{Bool, true, false}
 use mathlib.Core.List.{List}
 use lib.ListN.{length}
-use Rattle.facts.specs.Facts.{factsOf, dirStart, S}
+use Rattle.facts.specs.Facts.{factsOf, dirStart, N, S}
 use Rattle.model.specs.Directory.{ownedBlocks}
 use Rattle.model.specs.Check.{orElse, fires1, fires6, fires7, SoundFacts}
+use Rattle.packed.specs.Decoded.{Decoded}
 use Rattle.blockmap.specs.Marks.{marked, claimAll}
 use Rattle.directory.specs.Cursor.{Passes}
 use Rattle.facts.specs.declared.VolumeFacts.{VolumeFacts}
@@ -22,10 +23,11 @@ pub record Claims (e : ℕ → ℕ) (n a : ℕ) (before : List ℕ) (gs : List F
   pub claimed : r ≡ claimAll e n a before gs
   pub marks : r ≡ true → after ≡ marked before (ownedBlocks e a gs)
 
--- an image that passes checks 1 to 4, and a cursor over entries that pass check 6
-pub record Mapped (f : VolumeFacts) (image : List ℕ) (c : Cursor) : Type 0 where
+-- an image that passes checks 1 to 4, a cursor over entries that pass check 6, and the decoded map
+pub record Mapped (f : VolumeFacts) (image : List ℕ) (c : Cursor) (entries : List ℕ) : Type 0 where
   pub facts : SoundFacts f (length image)
   pub passes : Passes image c
+  pub decoded : Decoded image (N f) entries
 
 -- the facts of an image that passes check 1
 pub record Judged (f : VolumeFacts) (image : List ℕ) : Type 0 where

@@ -1,11 +1,11 @@
-// Checks 2 to 10, in their order. The map is read twice, and each fork's blocks are marked as they are walked. The directory is
-// read twice, besides the search for equal numbers and names pair by pair.
+// Checks 2 to 10, in their order. The map is decoded once, and each fork's blocks are marked as they are walked. The directory is
+// read four times: to count, to compare numbers and names, and to walk the forks.
 ghost use mathlib.Core.Path.{_≡_};
 ghost use Prim.Native.Nat.{_≤_};
-ghost use lib.ListN.{length};
 ghost use Rattle.model.specs.Check.{from2, from8};
 ghost use Rattle.model.specs.Directory.{forksIn};
 ghost use Rattle.model.specs.Map.{mapEntry};
+ghost use Rattle.packed.specs.Decoded.{entryIn, Decoded};
 ghost use Rattle.directory.specs.Cursor.{restOf, Fits, Passes};
 ghost use Rattle.checks.specs.Numbers.{directoryNumber, Claims, Judged, Mapped};
 use directory::Cursor;
@@ -29,28 +29,35 @@ fn directory_number(image: &[u8], c: Cursor, files: u16, next: u32) -> u8
     if !t.numbered {
         return 7;
     }
-    if !tally::all_differ(image, c) {
+    if !repeats::all_differ(image, c, t.count) {
         return 7;
     }
     0
 }
 
 // Whether each fork is good and shares no block with one before it. Their blocks are marked.
-fn claim_all(image: &[u8], from: Cursor, n: u16, a: u32, marks: &mut [u8; 642]) -> bool
-    requires { ⌜ (n ≤ 640) × (512 ≤ a) × (2048 ≤ length (now image)) ⌝ }
+fn claim_all(
+    image: &[u8],
+    from: Cursor,
+    entries: &[u16; 642],
+    n: u16,
+    a: u32,
+    marks: &mut [u8; 642],
+) -> bool
+    requires { ⌜ (n ≤ 640) × (512 ≤ a) ⌝ }
     requires { ⌜ Passes (now image) from ⌝ }
-    ensures { λ r. ⌜ Claims (mapEntry (now (image .entry))) n a (now (marks .entry)) (forksIn (restOf (now (image .entry)) from)) r (now (marks .exit)) ⌝ }
+    ensures { λ r. ⌜ Claims (entryIn (now (entries .entry))) n a (now (marks .entry)) (forksIn (restOf (now (image .entry)) from)) r (now (marks .exit)) ⌝ }
 {
     let mut c = from;
     loop {
         match c.next(image) {
             Step::Entry(e, behind) => {
                 let data = fields::read_fork(image, e, Fork::Data);
-                if !chains::claim_fork(image, n, a, data, marks) {
+                if !chains::claim_fork(entries, n, a, data, marks) {
                     return false;
                 }
                 let resource = fields::read_fork(image, e, Fork::Resource);
-                if !chains::claim_fork(image, n, a, resource, marks) {
+                if !chains::claim_fork(entries, n, a, resource, marks) {
                     return false;
                 }
                 c = behind;
@@ -58,6 +65,7 @@ fn claim_all(image: &[u8], from: Cursor, n: u16, a: u32, marks: &mut [u8; 642]) 
             Step::End => {
                 return true;
             }
+            // A directory that passed check 6 has none.
             Step::Bad => {
                 return true;
             }
@@ -65,21 +73,20 @@ fn claim_all(image: &[u8], from: Cursor, n: u16, a: u32, marks: &mut [u8; 642]) 
     }
 }
 
-// Checks 8 to 10.
-fn map_number(image: &[u8], f: VolumeFacts, c: Cursor) -> u8
-    requires { ⌜ Mapped f (now image) c ⌝ }
+// Checks 8 to 10, from the decoded map.
+fn map_number(image: &[u8], f: VolumeFacts, c: Cursor, entries: &[u16; 642]) -> u8
+    requires { ⌜ Mapped f (now image) c (now entries) ⌝ }
     ensures { λ r. ⌜ r ≡ from8 f (mapEntry (now (image .entry))) (forksIn (restOf (now (image .entry)) c)) ⌝ }
 {
     let n = f.allocation_blocks;
     let mut marks = [0u8; 642];
-    if !claim_all(image, c, n, f.block_size, &mut marks) {
+    if !claim_all(image, c, entries, n, f.block_size, &mut marks) {
         return 8;
     }
-    let census = blockmap::owned_and_free(image, n, &marks);
-    if census.unowned {
+    if blockmap::any_unowned(entries, n, &marks) {
         return 9;
     }
-    if census.free != f.free_blocks {
+    if blockmap::free_count(entries, n) != f.free_blocks {
         return 10;
     }
     0
@@ -94,7 +101,8 @@ pub fn judge(image: &[u8], f: VolumeFacts) -> u8
     if number != 0 {
         return number;
     }
-    if blockmap::any_bad(image, f.allocation_blocks) {
+    let entries = packed::decode(image, f.allocation_blocks);
+    if blockmap::any_bad(&entries, f.allocation_blocks) {
         return 5;
     }
     let start = f.directory_start;
@@ -103,5 +111,5 @@ pub fn judge(image: &[u8], f: VolumeFacts) -> u8
     if number != 0 {
         return number;
     }
-    map_number(image, f, c)
+    map_number(image, f, c, &entries)
 }

@@ -29,6 +29,7 @@ pub fn read_end(image: &[u8], base: usize) -> usize
             Step::End => {
                 return c.at;
             }
+            // A directory that passed check 6 has none.
             Step::Bad => {
                 return c.at;
             }

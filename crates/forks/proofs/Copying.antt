@@ -5,12 +5,11 @@ use mathlib.Core.Bool.{true}
 use mathlib.Core.List.{List, [], _∷_, _++_}
 use native.Mathlib.Omega.{arith}
 use native.Mathlib.Nat.{mul-le-mul-right, div-add-mod', div-lt-iff-lt-mul}
-use native.Mathlib.Numerals.{add-one}
 use mir.Syntax.{w16, w64}
 use mir.Val.{Fits}
-use lib.ListN.{length, getD, set, take, drop, length-drop}
-use lib.Seq.{paste, paste-suc, getD-drop, take-at, take-add, drop-drop, take-append-le, drop-append-le, drop-append-add, length-take-le}
-use Rattle.numbers.specs.Bytes.{byte, part}
+use lib.ListN.{length, getD, take, drop, length-drop}
+use lib.Seq.{paste, take-at, take-add, drop-drop, take-append-le, drop-append-le, drop-append-add, length-take-le}
+use Rattle.numbers.specs.Bytes.{part}
 use Rattle.facts.specs.Facts.{factsOf, N, A, S, blockByte}
 use Rattle.model.specs.Map.{mapEntry, runs, chainBlocks}
 use Rattle.model.specs.Directory.{directory, forkOf, blockCount, forkBlocks}
@@ -29,13 +28,6 @@ use Rattle.chains.proofs.Chains.{chain-most}
 use Rattle.forks.specs.Content.{Copyable}
 
 -- ---- the buffer
-
--- one byte more of the image
-pub copy-byte : (l image : List ℕ) (to q i : ℕ) → to + i < length l → q + i < length image
-    → set (paste l to (drop q image) i) (to + i) (byte image (q + i)) ≡ paste l to (drop q image) (i + 1)
-copy-byte l image to q i hl hq =
-    let h : i < length (drop q image) = omega (arith, length-drop q image) in
-    rw (add-one, ← getD-drop q image i 0) (paste-suc l to (drop q image) i 0 hl h)
 
 -- d bytes of xs are copied into l, and n more that stand at the head of c
 pub copy-on : (l xs c : List ℕ) (d n : ℕ) → d ≤ length xs → d ≤ length l → take n c ≡ part d n xs

@@ -1,2 +1,3 @@
+pub mod Moves
 pub mod Copying
 pub mod Filling

@@ -3,26 +3,14 @@ ghost use mathlib.Core.Path.{_≡_};
 ghost use mathlib.Core.List.{_++_};
 ghost use Prim.Native.Nat.{_+_, _*_, _≤_, min};
 ghost use lib.ListN.{length, drop};
-ghost use lib.Seq.{paste};
 ghost use Rattle.numbers.specs.Bytes.{part};
 ghost use Rattle.model.specs.Calls.{forkBytes, putContent, readCount, copied};
 ghost use Rattle.model.specs.Map.{mapEntry, chainBlocks};
 ghost use Rattle.forks.specs.Content.{Copyable, Fillable};
+use crate::moving::copy_part;
 use facts::AllocationBlock;
 use facts::LogicalBlock;
 use model::ForkFacts;
-
-// Copies n bytes from a place of the image to a place of the buffer.
-fn copy_part(image: &[u8], from: usize, buffer: &mut [u8], to: usize, n: usize)
-    requires { ⌜ (from + n ≤ length (now image)) × (to + n ≤ length (now buffer)) ⌝ }
-    ensures { λ r. ⌜ now (buffer .exit) ≡ paste (now (buffer .entry)) to (drop from (now (image .entry))) n ⌝ }
-{
-    let mut i = 0;
-    while i < n {
-        buffer[to + i] = image[from + i];
-        i += 1;
-    }
-}
 
 fn smaller(a: usize, b: usize) -> usize
     ensures { λ r. ⌜ r ≡ min a b ⌝ }

@@ -43,7 +43,7 @@ free-all e n = ap (λ l. keep (λ x. eqb (e x) 0) l) (all-onward n)
 
 -- entries that are 0 in the same places
 pub free-same : (e e′ : ℕ → ℕ) (n b : ℕ) → ((y : ℕ) → b ≤ y → eqb (e′ y) 0 ≡ eqb (e y) 0) → freeFrom e′ n b ≡ freeFrom e n b
-free-same e e′ n b h = keep-same (λ x. eqb (e′ x) 0) (λ x. eqb (e x) 0) (n + 2 - b) b h
+free-same e e′ n b h = keep-same (λ x. eqb (e′ x) 0) (λ x. eqb (e x) 0) (n + 2 - b) b (λ x low _. h x low)
 
 -- ---- free blocks joined one by one
 

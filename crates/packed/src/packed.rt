@@ -4,6 +4,7 @@ ghost use mathlib.Core.Path.{_≡_};
 ghost use Prim.Native.Nat.{_+_, _*_, _/_, _%_, _≤_, _<_};
 ghost use lib.ListN.{length};
 ghost use Rattle.model.specs.Map.{entryByte, mapEntry, setEntry};
+ghost use Rattle.packed.specs.Decoded.{Decoded};
 use facts::AllocationBlock;
 
 // The map starts here.
@@ -99,4 +100,26 @@ pub fn store(image: &mut [u8], b: AllocationBlock, value: u16)
         image[at] = high_half(value, first);
         image[at + 1] = low_byte(value);
     }
+}
+
+// The entries of blocks 2 to n + 1, each at its block's number, decoded by three bytes and two entries at a time. Behind an odd n
+// stands one more.
+pub fn decode(image: &[u8], n: u16) -> [u16; 642]
+    requires { ⌜ (n ≤ 640) × (2048 ≤ length (now image)) ⌝ }
+    ensures { λ r. ⌜ Decoded (now (image .entry)) n r ⌝ }
+{
+    let mut entries = [0u16; 642];
+    let end = n as usize + 2;
+    let mut at = MAP_AT;
+    let mut b: usize = 2;
+    while b < end {
+        let second = image[at + 1];
+        let even = join_even(image[at], second);
+        let odd = join_odd(second, image[at + 2]);
+        entries[b] = even;
+        entries[b + 1] = odd;
+        at += 3;
+        b += 2;
+    }
+    entries
 }

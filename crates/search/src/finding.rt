@@ -39,6 +39,7 @@ pub fn locate(image: &[u8], from: Cursor, name: &[u8]) -> Found
             Step::End => {
                 return Found::Nothing;
             }
+            // A directory that passed check 6 has none.
             Step::Bad => {
                 return Found::Nothing;
             }
@@ -65,6 +66,7 @@ pub fn entry_at(image: &[u8], from: Cursor, place: u64) -> Found
             Step::End => {
                 return Found::Nothing;
             }
+            // A directory that passed check 6 has none.
             Step::Bad => {
                 return Found::Nothing;
             }

@@ -1,11 +1,11 @@
 -- What the functions for checks 6 and 7 say of the entries es.
 use Prim.Native.Nat.{ℕ}
 use mathlib.Core.Path.{_≡_}
-use mathlib.Core.Bool.{Bool, false, _||_}
+use mathlib.Core.Bool.{false}
 use mathlib.Core.List.{List}
 use lib.ListN.{length}
 use Rattle.model.specs.Lists.{every}
-use Rattle.model.specs.Check.{fires6, goodNumber, sameNumbers, sameNames}
+use Rattle.model.specs.Check.{fires6, goodNumber}
 use Rattle.tally.specs.declared.Tally.{Tally}
 
 -- check 6, and where it does not fire, the entries counted and their file numbers tested
@@ -13,7 +13,3 @@ pub record Tallied (next : ℕ) (es : List (List ℕ)) (t : Tally) : Type 0 wher
   pub six : t .bad ≡ fires6 es
   pub counted : t .bad ≡ false → t .count ≡ length es
   pub tested : t .bad ≡ false → t .numbered ≡ every (goodNumber next) es
-
--- the two entries have the same file number or equal names
-unfoldable pub clash : List ℕ → List ℕ → Bool
-clash d e = sameNumbers d e || sameNames d e

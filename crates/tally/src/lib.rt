@@ -1,7 +1,6 @@
-// Checks 6 and 7: entries counted, and compared with each other.
+// Checks 6 and 7: entries counted, and each of them tested.
 mod checks;
 
-pub use checks::all_differ;
 pub use checks::count_entries;
 
 // Whether check 6 fires, and where it does not, how many entries there are and whether each file number is above 0 and below

@@ -1,68 +1,53 @@
--- `any_bad` meets its contract. The invariant: the blocks passed are not bad, so the answer is that of those left.
+-- `any_bad` meets its contract. The invariant: the answer is what was found in the blocks passed, or that of those left.
 -- Assumes nothing.
 use Prim.Native.Nat.{ℕ, _+_, _-_, _≤_}
 use mathlib.Core.Path.{_≡_, sym, ap, _∙_}
-use mathlib.Core.Bool.{Bool, true, false}
+use mathlib.Core.Bool.{Bool, true, false, _||_}
 use mathlib.Core.List.{List}
 use mathlib.Core.Logic.{⊎-elim}
 use native.Mathlib.Omega.{arith}
 use denote.Ref.{now}
 use Rattle.model.specs.Lists.{any}
-use Rattle.model.specs.Map.{mapEntry, sortOf, isBad}
+use Rattle.model.specs.Map.{sortOf, isBad}
 use Rattle.model.specs.Check.{fires5}
-use Rattle.blockmap.proofs.Ranges.{onward, all-onward, any-hit, any-miss, any-none}
+use Rattle.packed.specs.Decoded.{entryIn}
+use Rattle.blockmap.proofs.Ranges.{onward, all-onward, flag-hit, flag-miss, flag-none}
 use borrow.Author.Needs.{needs}
 use Rattle.blockmap.proofs.scan.any_bad.Statement.{statement}
 use Rattle.blockmap.proofs.scan.any_bad.Tie as tie
 
 -- block b's entry is bad
 abbrev bad : List ℕ → ℕ → ℕ → Bool
-bad image n b = isBad (sortOf n (mapEntry image b))
+bad entries n b = isBad (sortOf n (entryIn entries b))
+
+-- what was found and what is left are all
+abbrev Found : List ℕ → ℕ → Bool → ℕ → Type 0
+Found entries n found b = fires5 (entryIn entries) n ≡ (found || any (bad entries n) (onward n b))
 
 abbrev Inv-loop : tie.InvT-loop
-Inv-loop image n b₀ b = (2 ≤ b) × (b ≤ n + 2) × (fires5 (mapEntry image) n ≡ any (bad image n) (onward n b))
+Inv-loop entries n end found₀ b₀ found b = (2 ≤ b) × (b ≤ n + 2) × Found entries n found b
 
 abbrev μ-loop : tie.MeasureT-loop
-μ-loop image n b₀ b = n + 2 - b
+μ-loop entries n end found₀ b₀ found b = n + 2 - b
+
+add-end : tie.Need-add-end Inv-loop μ-loop
+add-end c = omega arith
 
 loop-holds : tie.Need-loop-holds Inv-loop μ-loop
 unfolding fires5
-loop-holds c = (omega arith, omega arith, ap (any (bad _ _)) (all-onward _))
+loop-holds c = (omega arith, omega arith, ap (any (bad (now (c .args .entries)) (c .args .n))) (all-onward (c .args .n)))
 
-add-loop : tie.Need-add-loop Inv-loop μ-loop
-add-loop c = omega arith
+mul-sort-value : tie.Need-mul-sort-value Inv-loop μ-loop
+mul-sort-value c = omega arith
 
-load-requires : tie.Need-load-requires Inv-loop μ-loop
-load-requires c κs = omega arith
+element-copy-out-sort-value : tie.Need-element-copy-out-sort-value Inv-loop μ-loop
+element-copy-out-sort-value c = omega arith
 
 sort-value-requires : tie.Need-sort-value-requires Inv-loop μ-loop
 sort-value-requires c κs = omega arith
 
--- what the sort says of the block, and what it means for those left
-module _ (c : tie.After-sort-value Inv-loop μ-loop) where
-  start : tie.Start Inv-loop μ-loop
-  start = c .before .before .before .before .before
-
-  sorted : bad (now (start .args .image)) (start .args .n) (c .before .before .before .loop .b) ≡ isBad (c .sort-value .result)
-  unfolding start
-  sorted = ap (λ v. isBad (sortOf (start .args .n) v)) (sym (c .before .load .ensures .0)) ∙ ap isBad (sym (c .sort-value .ensures))
-
-  hit : isBad (c .sort-value .result) ≡ true → fires5 (mapEntry (now (start .args .image))) (start .args .n) ≡ true
-  unfolding start
-  hit e = c .before .before .before .loop .inv .2 ∙ any-hit (bad (now (start .args .image)) (start .args .n)) (start .args .n) _ (omega arith) (sorted ∙ e)
-
-  miss : isBad (c .sort-value .result) ≡ false
-      → fires5 (mapEntry (now (start .args .image))) (start .args .n)
-      ≡ any (bad (now (start .args .image)) (start .args .n)) (onward (start .args .n) (c .before .before .before .loop .b + 1))
-  unfolding start
-  miss e = c .before .before .before .loop .inv .2 ∙ any-miss (bad (now (start .args .image)) (start .args .n)) (start .args .n) _ (omega arith) (sorted ∙ e)
-
 enum-told : tie.Need-enum-told Inv-loop μ-loop
 enum-told c = search needs
-
-returns : tie.Need-returns Inv-loop μ-loop
-unfolding isBad start
-returns c = sym (hit (c .before .before) (ap isBad (c .enum-told .given .1)))
 
 enum-told-2 : tie.Need-enum-told-2 Inv-loop μ-loop
 enum-told-2 c = search needs
@@ -79,20 +64,47 @@ add-b c = omega arith
 loop-less : tie.Need-loop-less Inv-loop μ-loop
 loop-less c = omega arith
 
--- the way on is that of an entry that is not bad
-passed : (c : tie.At-match-came Inv-loop μ-loop) → isBad (c .before .sort-value .result) ≡ false
+-- what the sort says of the block, and what it means for those left
+module _ (c : tie.After-sort-value Inv-loop μ-loop) (found : Bool) where
+  abbrev at : tie.At-loop Inv-loop μ-loop
+  at = c .before .before .before
+
+  abbrev entries : List ℕ
+  entries = now (at .before .args .entries)
+
+  sorted : bad entries (at .before .args .n) (at .loop .b) ≡ isBad (c .sort-value .result)
+  unfolding entryIn
+  sorted = ap isBad (sym (c .sort-value .ensures))
+
+  hit : isBad (c .sort-value .result) ≡ true → found ≡ true → Found entries (at .before .args .n) found (at .loop .b + 1)
+  hit e q =
+      let n = at .before .args .n in
+      at .loop .inv .2 ∙ flag-hit (bad entries n) n (at .loop .b) (at .loop .found) found (omega arith) (sorted ∙ e) q
+
+  miss : isBad (c .sort-value .result) ≡ false → found ≡ at .loop .found → Found entries (at .before .args .n) found (at .loop .b + 1)
+  miss e q =
+      let n = at .before .args .n in
+      at .loop .inv .2 ∙ flag-miss (bad entries n) n (at .loop .b) (at .loop .found) found (omega arith) (sorted ∙ e) q
+
+-- the block is passed, by each way
+passed : (c : tie.At-match-came Inv-loop μ-loop)
+    → let at = c .before .before .before .before in Found (now (at .before .args .entries)) (at .before .args .n) (c .match .found) (at .loop .b + 1)
 unfolding isBad
 passed c =
-    ⊎-elim (λ w. ap isBad (w .1 .given .1))
-    (⊎-elim (λ w. ap isBad (w .1 .given .1)) (λ w. ap isBad (w .1 .given .1)))
+    ⊎-elim (λ w. hit (c .before) (c .match .found) (ap isBad (w .1 .given .1)) (w .2))
+    (⊎-elim (λ w. miss (c .before) (c .match .found) (ap isBad (w .1 .given .1)) (w .2))
+    (⊎-elim (λ w. miss (c .before) (c .match .found) (ap isBad (w .1 .given .1)) (w .2))
+    (λ w. miss (c .before) (c .match .found) (ap isBad (w .1 .given .1)) (w .2))))
     (c .match .came)
 
 loop-again : tie.Need-loop-again Inv-loop μ-loop
-unfolding start
-loop-again c = (omega arith, omega arith, miss (c .before) (passed c))
+loop-again c = (omega arith, omega arith, passed c)
 
-returns-2 : tie.Need-returns-2 Inv-loop μ-loop
-returns-2 c = sym (c .before .loop .inv .2 ∙ any-none (bad _ _) (c .before .before .before .args .n) _ (omega arith))
+returns : tie.Need-returns Inv-loop μ-loop
+returns c =
+    let a = c .before .before .args in
+    let l = c .before .loop in
+    sym (l .inv .2 ∙ flag-none (bad (now (a .entries)) (a .n)) (a .n) (l .b) (l .found) (omega arith))
 
 pub any-bad-spec : {M : Type 1} → statement M
 any-bad-spec =
@@ -100,16 +112,16 @@ any-bad-spec =
     (tie.spec
     Inv-loop
     μ-loop
+    add-end
     loop-holds
-    add-loop
-    load-requires
+    mul-sort-value
+    element-copy-out-sort-value
     sort-value-requires
     enum-told
-    returns
     enum-told-2
     enum-told-3
     enum-told-4
     add-b
     loop-less
     loop-again
-    returns-2)
+    returns)

@@ -1,20 +1,17 @@
 -- The proof of the cycle of calls {walk}. The measure is k, the blocks still due. Assumes nothing.
 use Prim.Native.Nat.{ℕ, suc, _-_, _<_}
-use mathlib.Core.Path.{_≡_, ap, _∙_}
+use mathlib.Core.Path.{_≡_, _∙_}
 use mathlib.Core.Bool.{false≢true}
 use native.Mathlib.Omega.{arith}
 use denote.Ref.{now}
-use lib.ListN.{set}
-use Rattle.model.specs.Map.{mapEntry, chainBlocks}
 use Rattle.model.proofs.Map.{is-block}
-use Rattle.blockmap.specs.Marks.{marked}
-use Rattle.chains.proofs.Walks.{walks, walk-ends, walk-none, walk-met, walk-on, ends-marked, on-marked, too-low, too-high}
+use Rattle.packed.specs.Decoded.{entryIn}
+use Rattle.chains.proofs.Walks.{walk-ends, walk-none, walk-met, walk-on, ends-marked, on-marked, too-low, too-high}
 use borrow.Fn.Kinds.{In}
 use borrow.Fn.PlainCycle.{Measures, is, falls, and}
 use Rattle.chains.proofs.chain.walk.Reads as walk
 use Rattle.chains.proofs.chain.walk.Kinds as walk-kinds
 use Rattle.chains.proofs.chain.+walk.Lts-walk as walk-lts
-use Rattle.packed.proofs.load.Reads as load-reads
 use Rattle.chains.proofs.chain.+walk.{statement}
 use Rattle.chains.proofs.chain.+walk.Tie.{close}
 
@@ -27,136 +24,74 @@ walk-at t = and 2 walk-kinds.ps (is 2 walk-kinds.ps μ-walk t) walk.Pre
 abbrev walk-below : ℕ → In 2 walk-kinds.ps
 walk-below t = and 2 walk-kinds.ps (falls 2 walk-kinds.ps _<_ μ-walk t) walk.Pre
 
-walk-returns : (t : ℕ) → walk-lts.Need-returns (
-  load-reads.Asked,
-  load-reads.Learnt,
-  walk-below t,
-  walk.Post,
-) (walk-at t) walk.Post
+walk-returns : (t : ℕ) → walk-lts.Need-returns (walk-below t, walk.Post) (walk-at t) walk.Post
 walk-returns t c =
-    let a = c .before .before .args in
-    let e = mapEntry (now (a .image)) in
+    let a = c .before .args in
+    let e = entryIn (now (a .entries)) in
     let m = now (a .marks) in
     (walk-ends e (a .n) m (a .k) (a .s .0) (c .if1 .taken), λ r. ends-marked e m (a .k) (a .s .0) (c .if1 .taken))
 
-walk-returns-2 : (t : ℕ) → walk-lts.Need-returns-2 (
-  load-reads.Asked,
-  load-reads.Learnt,
-  walk-below t,
-  walk.Post,
-) (walk-at t) walk.Post
+walk-returns-2 : (t : ℕ) → walk-lts.Need-returns-2 (walk-below t, walk.Post) (walk-at t) walk.Post
 walk-returns-2 t c =
-    let a = c .before .before .before .args in
-    let e = mapEntry (now (a .image)) in
+    let a = c .before .before .args in
+    let e = entryIn (now (a .entries)) in
     let m = now (a .marks) in
     (walk-none e (a .n) m (a .k) (a .s .0) (omega arith) (too-low (a .n) (a .s .0) (omega arith)), λ r. absurd (false≢true r))
 
-walk-add-if3 : (t : ℕ) → walk-lts.Need-add-if3 (
-  load-reads.Asked,
-  load-reads.Learnt,
-  walk-below t,
-  walk.Post,
-) (walk-at t) walk.Post
+walk-add-if3 : (t : ℕ) → walk-lts.Need-add-if3 (walk-below t, walk.Post) (walk-at t) walk.Post
 walk-add-if3 t c = omega arith
 
-walk-returns-3 : (t : ℕ) → walk-lts.Need-returns-3 (
-  load-reads.Asked,
-  load-reads.Learnt,
-  walk-below t,
-  walk.Post,
-) (walk-at t) walk.Post
+walk-returns-3 : (t : ℕ) → walk-lts.Need-returns-3 (walk-below t, walk.Post) (walk-at t) walk.Post
 walk-returns-3 t c =
-    let a = c .before .before .before .before .args in
-    let e = mapEntry (now (a .image)) in
+    let a = c .before .before .before .args in
+    let e = entryIn (now (a .entries)) in
     let m = now (a .marks) in
     (walk-none e (a .n) m (a .k) (a .s .0) (omega arith) (too-high (a .n) (a .s .0) (omega arith)), λ r. absurd (false≢true r))
 
-walk-cast-place : (t : ℕ) → walk-lts.Need-cast-place (
-  load-reads.Asked,
-  load-reads.Learnt,
-  walk-below t,
-  walk.Post,
-) (walk-at t) walk.Post
+walk-cast-place : (t : ℕ) → walk-lts.Need-cast-place (walk-below t, walk.Post) (walk-at t) walk.Post
 walk-cast-place t c = omega arith
 
-walk-element-copy-out-if4 : (t : ℕ) → walk-lts.Need-element-copy-out-if4 (
-  load-reads.Asked,
-  load-reads.Learnt,
-  walk-below t,
-  walk.Post,
-) (walk-at t) walk.Post
+walk-element-copy-out-if4 : (t : ℕ) → walk-lts.Need-element-copy-out-if4 (walk-below t, walk.Post) (walk-at t) walk.Post
 walk-element-copy-out-if4 t c = omega arith
 
-walk-returns-4 : (t : ℕ) → walk-lts.Need-returns-4 (
-  load-reads.Asked,
-  load-reads.Learnt,
-  walk-below t,
-  walk.Post,
-) (walk-at t) walk.Post
+walk-returns-4 : (t : ℕ) → walk-lts.Need-returns-4 (walk-below t, walk.Post) (walk-at t) walk.Post
 walk-returns-4 t c =
-    let a = c .before .before .before .before .before .before .args in
-    let e = mapEntry (now (a .image)) in
+    let a = c .before .before .before .before .before .args in
+    let e = entryIn (now (a .entries)) in
     let m = now (a .marks) in
     (walk-met e (a .n) m (a .k) (a .s .0) (omega arith) (c .if4 .taken), λ r. absurd (false≢true r))
 
-walk-element-write-marks : (t : ℕ) → walk-lts.Need-element-write-marks (
-  load-reads.Asked,
-  load-reads.Learnt,
-  walk-below t,
-  walk.Post,
-) (walk-at t) walk.Post
+walk-element-write-marks : (t : ℕ) → walk-lts.Need-element-write-marks (walk-below t, walk.Post) (walk-at t) walk.Post
 walk-element-write-marks t c = omega arith
 
-walk-load-requires : (t : ℕ) → walk-lts.Need-load-requires (
-  load-reads.Asked,
-  load-reads.Learnt,
-  walk-below t,
-  walk.Post,
-) (walk-at t) walk.Post
-walk-load-requires t c κs = omega arith
+walk-mul-next : (t : ℕ) → walk-lts.Need-mul-next (walk-below t, walk.Post) (walk-at t) walk.Post
+walk-mul-next t c = omega arith
 
-walk-sub-walk : (t : ℕ) → walk-lts.Need-sub-walk (
-  load-reads.Asked,
-  load-reads.Learnt,
-  walk-below t,
-  walk.Post,
-) (walk-at t) walk.Post
+walk-element-copy-out-next : (t : ℕ) → walk-lts.Need-element-copy-out-next (walk-below t, walk.Post) (walk-at t) walk.Post
+walk-element-copy-out-next t c = omega arith
+
+walk-sub-walk : (t : ℕ) → walk-lts.Need-sub-walk (walk-below t, walk.Post) (walk-at t) walk.Post
 walk-sub-walk t c = omega arith
 
-walk-walk-requires : (t : ℕ) → walk-lts.Need-walk-requires (
-  load-reads.Asked,
-  load-reads.Learnt,
-  walk-below t,
-  walk.Post,
-) (walk-at t) walk.Post
+walk-walk-requires : (t : ℕ) → walk-lts.Need-walk-requires (walk-below t, walk.Post) (walk-at t) walk.Post
 walk-walk-requires t c κs = omega arith
 
-walk-returns-5 : (t : ℕ) → walk-lts.Need-returns-5 (
-  load-reads.Asked,
-  load-reads.Learnt,
-  walk-below t,
-  walk.Post,
-) (walk-at t) walk.Post
+walk-returns-5 : (t : ℕ) → walk-lts.Need-returns-5 (walk-below t, walk.Post) (walk-at t) walk.Post
+unfolding entryIn
 walk-returns-5 t c =
-    let p = c .before .before in
-    let a = p .before .before .before .before .before .before .before .args in
-    let e = mapEntry (now (a .image)) in
+    let p = c .before .before .before in
+    let a = p .before .before .before .before .before .args in
+    let e = entryIn (now (a .entries)) in
     let m = now (a .marks) in
     let j = a .k - 1 in
     let q : a .k ≡ suc j = omega arith in
-    let here = is-block (a .n) (a .s .0) (omega arith) (omega arith) in
-    let x = p .load .ensures .0 in (
-      c .walk .ensures .0 ∙ ap (walks e (a .n) (set m (a .s .0) 1) j) x ∙ walk-on e (a .n) m (a .k) j (a .s .0) q here (p .before .if4 .left),
-      λ r. c .walk .ensures .1 r ∙ ap (λ b. marked (set m (a .s .0) 1) (chainBlocks e j b)) x ∙ on-marked e m (a .k) j (a .s .0) q,
+    let here = is-block (a .n) (a .s .0) (omega arith) (omega arith) in (
+      c .walk .ensures .0 ∙ walk-on e (a .n) m (a .k) j (a .s .0) q here (p .if4 .left),
+      λ r. c .walk .ensures .1 r ∙ on-marked e m (a .k) j (a .s .0) q,
     )
 
 pub +walk-spec : {M : Type 1} → statement M
-+walk-spec = close μ-walk λ t. walk-lts.spec (
-  load-reads.Asked,
-  load-reads.Learnt,
-  walk-below t,
-  walk.Post,
-)
++walk-spec = close μ-walk λ t. walk-lts.spec (walk-below t, walk.Post)
     (walk-at t)
     walk.Post
     (walk-returns t)
@@ -167,7 +102,8 @@ pub +walk-spec : {M : Type 1} → statement M
     (walk-element-copy-out-if4 t)
     (walk-returns-4 t)
     (walk-element-write-marks t)
-    (walk-load-requires t)
+    (walk-mul-next t)
+    (walk-element-copy-out-next t)
     (walk-sub-walk t)
     (walk-walk-requires t)
     (walk-returns-5 t)

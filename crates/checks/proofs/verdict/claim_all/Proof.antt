@@ -4,10 +4,10 @@ use Prim.Native.Nat.{ℕ}
 use mathlib.Core.List.{List, _∷_}
 use denote.Ref.{now}
 use borrow.Author.Tests.{not-true, not-false}
-use Rattle.model.specs.Map.{mapEntry}
 use Rattle.model.specs.Directory.{forkOf, forksIn}
 use Rattle.model.specs.declared.ForkFacts.{ForkFacts}
 use Rattle.model.specs.declared.Fork.the-variants.{Data, Resource}
+use Rattle.packed.specs.Decoded.{entryIn}
 use Rattle.directory.specs.Cursor.{restOf, Passes, ahead, bytesAt, Moves}
 use Rattle.directory.proofs.Each.{moved, ended, failed, passes-more, never-fails}
 use Rattle.checks.proofs.Claims.{Onward, onward-none, onward-same, onward-end, onward-claim, onward-not, forks-more, forks-none}
@@ -16,10 +16,10 @@ use Rattle.checks.proofs.verdict.claim_all.Statement.{statement}
 use Rattle.checks.proofs.verdict.claim_all.Tie as tie
 
 abbrev Inv-loop : tie.InvT-loop
-Inv-loop image n a marks₀ c₀ marks c = Passes image c × Onward (mapEntry image) n a marks₀ (forksIn (restOf image c₀)) marks (forksIn (restOf image c))
+Inv-loop image entries n a marks₀ c₀ marks c = Passes image c × Onward (entryIn entries) n a marks₀ (forksIn (restOf image c₀)) marks (forksIn (restOf image c))
 
 abbrev μ-loop : tie.MeasureT-loop
-μ-loop image n a marks₀ c₀ marks c = ahead c
+μ-loop image entries n a marks₀ c₀ marks c = ahead c
 
 -- the step to the next entry, its bytes, and the entries behind it
 step : (c : tie.After-e Inv-loop μ-loop) → Moves (now (c .before .before .before .before .before .args .image)) (c .before .before .before .loop .c) (c .e .given .0 .0) (c .e .given .0 .1 .0)
@@ -33,7 +33,7 @@ rest c = restOf (now (c .before .before .before .before .before .args .image)) (
 
 -- to claim all forks is to claim these from the marks u
 abbrev Left : tie.After-e Inv-loop μ-loop → List ℕ → List ForkFacts → Type 0
-Left c u hs = let a = c .before .before .before .before .before .args in Onward (mapEntry (now (a .image))) (a .n) (a .a) (now (a .marks)) (forksIn (restOf (now (a .image)) (a .from))) u hs
+Left c u hs = let a = c .before .before .before .before .before .args in Onward (entryIn (now (a .entries))) (a .n) (a .a) (now (a .marks)) (forksIn (restOf (now (a .image)) (a .from))) u hs
 
 -- before the entry's data fork is claimed
 first : (c : tie.After-e Inv-loop μ-loop) → Left c (c .before .before .before .loop .marks) (forkOf Data (bytes c) ∷ forkOf Resource (bytes c) ∷ forksIn (rest c))

@@ -3,10 +3,13 @@ use mathlib.Core.Path.{_≡_, sym, _∙_}
 use native.Mathlib.Omega.{arith}
 use lib.ListN.{length}
 use denote.Ref.{now}
+use Rattle.facts.specs.Facts.{N}
+use Rattle.model.specs.Map.{mapEntry}
 use Rattle.model.specs.Directory.{directory}
-use Rattle.model.specs.Check.{SoundFacts}
+use Rattle.model.specs.Check.{fires5, SoundFacts}
 use Rattle.directory.specs.Cursor.{restOf, Fits}
 use Rattle.directory.proofs.Whole.{begins-fits}
+use Rattle.checks.proofs.Agreeing.{five-alike}
 use Rattle.checks.proofs.Numbers.{by-facts, facts-sound, by-map5, by-directory, by-forks, directory-passes, rest-directory, judged-sized}
 use Rattle.checks.proofs.verdict.judge.Statement.{statement}
 use Rattle.checks.proofs.verdict.judge.Tie as tie
@@ -21,23 +24,31 @@ returns c = by-facts _ _ _ (c .before .facts-number .ensures) (c .if1 .taken)
 sound : (c : tie.Else1) → let s = c .before .before .before in SoundFacts (s .args .f) (length (now (s .args .image)))
 sound c = let s = c .before .before .before in facts-sound (s .args .f) (now (s .args .image)) _ (c .before .facts-number .ensures) (c .if1 .left) (s .pre .long)
 
+decode-requires : tie.Need-decode-requires
+decode-requires c κs = let s = sound c in (s .most, omega arith)
+
 any-bad-requires : tie.Need-any-bad-requires
-any-bad-requires c κs = let s = sound c in (s .most, omega arith)
+any-bad-requires c κs = sound (c .before .before) .most
+
+-- what the decoded map says of check 5, the image's says
+five : (c : tie.After-any-bad)
+    → let s = c .before .before .before .before .before .before in fires5 (mapEntry (now (s .args .image))) (N (s .args .f)) ≡ c .any-bad .result
+five c = sym (c .any-bad .ensures ∙ five-alike _ _ _ (c .before .before .decode .ensures .same))
 
 returns-2 : tie.Need-returns-2
 returns-2 c =
-    let facts = c .before .before in
-    by-map5 _ _ _ (facts .before .facts-number .ensures) (facts .if1 .left) (sym (c .before .any-bad .ensures) ∙ c .if2 .taken)
+    let facts = c .before .before .before .before in
+    by-map5 _ _ _ (facts .before .facts-number .ensures) (facts .if1 .left) (five (c .before) ∙ c .if2 .taken)
 
 new-requires : tie.Need-new-requires
-new-requires c κs = sound (c .before .before .before) .dirSome
+new-requires c κs = sound (c .before .before .before .before .before) .dirSome
 
 -- the cursor's entries are the directory
-entries : (c : tie.After-new) → let s = c .before .before .before .before .before .before .before in restOf (now (s .args .image)) (c .new .result) ≡ directory (now (s .args .image))
-entries c = rest-directory _ _ (c .before .before .before .before .before .before .before .pre .facts) _ (c .new .ensures)
+entries : (c : tie.After-new) → let s = c .before .before .before .before .before .before .before .before .before in restOf (now (s .args .image)) (c .new .result) ≡ directory (now (s .args .image))
+entries c = rest-directory _ _ (c .before .before .before .before .before .before .before .before .before .pre .facts) _ (c .new .ensures)
 
-fits : (c : tie.After-new) → let s = c .before .before .before .before .before .before .before in Fits (now (s .args .image)) (c .new .result)
-fits c = let s = sound (c .before .before .before .before) in begins-fits _ _ _ _ (c .new .ensures) (omega arith)
+fits : (c : tie.After-new) → let s = c .before .before .before .before .before .before .before .before .before in Fits (now (s .args .image)) (c .new .result)
+fits c = let s = sound (c .before .before .before .before .before .before) in begins-fits _ _ _ _ (c .new .ensures) (omega arith)
 
 directory-number-requires : tie.Need-directory-number-requires
 directory-number-requires c κs = fits c
@@ -46,23 +57,27 @@ returns-3 : tie.Need-returns-3
 returns-3 c =
     let new = c .before .before in
     let map = new .before .before in
-    let facts = map .before .before in
-    by-directory _ _ _ (facts .before .facts-number .ensures) (facts .if1 .left) (sym (map .before .any-bad .ensures) ∙ map .if2 .left) _ (entries new) _ (c .before .directory-number .ensures) (c .if3 .taken)
+    let facts = map .before .before .before .before in
+    by-directory _ _ _ (facts .before .facts-number .ensures) (facts .if1 .left) (five (map .before) ∙ map .if2 .left) _ (entries new) _ (c .before .directory-number .ensures) (c .if3 .taken)
 
 map-number-requires : tie.Need-map-number-requires
 map-number-requires c κs =
-    let new = c .before .before in record {
-      facts = sound (new .before .before .before .before);
-      passes = record { fits = fits new; good = directory-passes _ _ _ _ (c .before .directory-number .ensures) (c .if3 .left) };
+    let past = c .before in
+    let new = past .before .before in
+    let decode = new .before .before .before .before .before in record {
+      facts = sound (decode .before);
+      passes = record { fits = fits new; good = directory-passes _ _ _ _ (past .before .directory-number .ensures) (past .if3 .left) };
+      decoded = decode .decode .ensures;
     }
 
 returns-4 : tie.Need-returns-4
 returns-4 c =
-    let directory = c .before .before in
+    let past = c .before .before in
+    let directory = past .before in
     let new = directory .before in
     let map = new .before .before in
-    let facts = map .before .before in
-    by-forks _ _ _ (facts .before .facts-number .ensures) (facts .if1 .left) (sym (map .before .any-bad .ensures) ∙ map .if2 .left) _ (entries new) _ (directory .directory-number .ensures) (c .before .if3 .left) _ (c .map-number .ensures)
+    let facts = map .before .before .before .before in
+    by-forks _ _ _ (facts .before .facts-number .ensures) (facts .if1 .left) (five (map .before) ∙ map .if2 .left) _ (entries new) _ (directory .directory-number .ensures) (past .if3 .left) _ (c .map-number .ensures)
 
 pub judge-spec : {M : Type 1} → statement M
 judge-spec =
@@ -70,6 +85,7 @@ judge-spec =
     (tie.spec
     facts-number-requires
     returns
+    decode-requires
     any-bad-requires
     returns-2
     new-requires

@@ -4,7 +4,7 @@ use mathlib.Core.Path.{sym, ap, _∙_}
 use denote.Ref.{now}
 use lib.Dec.{ltb}
 use Rattle.directory.specs.Cursor.{bytesAt}
-use Rattle.tally.proofs.Clashes.{number-zero, number-some}
+use Rattle.tally.proofs.Numbers.{number-zero, number-some}
 use borrow.Author.Needs.{needs}
 use Rattle.tally.proofs.checks.good_number.Statement.{statement}
 use Rattle.tally.proofs.checks.good_number.Tie as tie

@@ -1,0 +1,4 @@
+pub mod Clashes
+pub mod Distinct
+pub mod Kept
+pub mod Homes
