@@ -1,1 +1,4 @@
+pub mod Decoded
 pub mod Marks
+pub mod Places
+pub mod Free

@@ -6,9 +6,9 @@ ghost use Prim.Native.Nat.{_≤_};
 ghost use lib.ListN.{length};
 ghost use Rattle.model.specs.Map.{sortOf, freeBlocks};
 ghost use Rattle.model.specs.Check.{fires5};
-ghost use Rattle.packed.specs.Decoded.{entryIn};
+ghost use Rattle.blockmap.specs.Decoded.{entryIn};
 ghost use Rattle.blockmap.specs.Marks.{unowned};
-use facts::AllocationBlock;
+use model::AllocationBlock;
 use model::MapValue;
 
 // What an entry of this value says on a volume of n allocation blocks. 4095, a directory inside the allocation area, is bad

@@ -2,7 +2,7 @@
 use Prim.Native.Nat.{ℕ}
 use mathlib.Core.List.{List, [], _∷_, _++_}
 use lib.ListN.{replicate}
-use Rattle.numbers.specs.Bytes.{u16, u32, zeros}
+use Rattle.model.specs.Bytes.{u16, u32, zeros}
 use Rattle.model.specs.Calls.{only, tellsFacts, tellsEntry, tellsBlock}
 use Rattle.model.specs.Calls.Call.{check, entry, find, block, read, create, write, cut, delete}
 use Rattle.model.specs.Cases.{Row, AllRight, bad, refused, forkBytesOf, entryBytes, WEEK1, week1, RATES, NEWS, ratesEntry, hall, withBytes, withWeek1, sample, weekFacts, hallFacts, ratesFacts, newsEntry, staleDisk, deadDisk, fullWeek, roomyDisk, longName, longDisk, twoBlocks, tellsRead, longFacts}

@@ -18,8 +18,8 @@ use Rattle.model.proofs.Map.{block-low, block-high, runs-block, runs-rest, chai
 use Rattle.model.proofs.Check.{good-fork}
 use Rattle.blockmap.specs.Marks.{fresh, marked, claims, claimAll, unowned}
 use Rattle.blockmap.proofs.Ranges.{any-same, keep-same}
-use Rattle.chains.proofs.Walks.{runs-in, runs-out}
-use Rattle.chains.proofs.Marks.{no-blocks, claim-on, claim-not}
+use Rattle.blockmap.proofs.Walks.{runs-in, runs-out}
+use Rattle.blockmap.proofs.Marks.{no-blocks, claim-on, claim-not}
 use Rattle.checks.specs.Numbers.{Claims}
 
 module _ (e e' : ℕ → ℕ) (n : ℕ) (agree : (b : ℕ) → 2 ≤ b → b ≤ n + 1 → e b ≡ e' b) where

@@ -5,17 +5,17 @@ use mathlib.Core.Bool.{Bool, true, false, not, false≢true}
 use mathlib.Core.List.{List, [], _∷_}
 use lib.ListN.{length, replicate}
 use borrow.Author.Tests.{eq-eqb, ne-eqb}
-use Rattle.facts.specs.Facts.{N, A, freeCount}
+use Rattle.model.specs.Facts.{N, A, freeCount}
 use Rattle.model.specs.Map.{freeBlocks}
 use Rattle.model.specs.Directory.{forkBlocks, ownedBlocks, forkOf, forksIn}
 use Rattle.model.specs.Check.{fires8, fires9, fires10, from8, from9}
-use Rattle.facts.specs.declared.VolumeFacts.{VolumeFacts}
+use Rattle.model.specs.declared.VolumeFacts.{VolumeFacts}
 use Rattle.model.specs.declared.ForkFacts.{ForkFacts}
 use Rattle.model.specs.declared.Fork.the-variants.{Data, Resource}
 use Rattle.blockmap.specs.Marks.{marked, claims, claimAll, unowned}
-use Rattle.chains.proofs.Marks.{claim-on, claim-not, claim-none, marked-none, marked-more, fires8-claim, fires9-unowned}
+use Rattle.blockmap.proofs.Marks.{claim-on, claim-not, claim-none, marked-none, marked-more, fires8-claim, fires9-unowned}
 use Rattle.checks.specs.Numbers.{Claims}
-use Rattle.limits.proofs.Firing.{fires-here, passes-here}
+use Rattle.checks.proofs.Firing.{fires-here, passes-here}
 
 module _ (e : ℕ → ℕ) (n a : ℕ) where
   -- to claim the forks gs from the marks t is to claim hs from u

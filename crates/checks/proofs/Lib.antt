@@ -1,3 +1,10 @@
+pub mod Firing
+pub mod Numbered
+pub mod GoodNumbers
+pub mod Clashes
+pub mod Distinct
+pub mod Homes
+pub mod Kept
 pub mod Numbers
 pub mod Claims
 pub mod Agreeing

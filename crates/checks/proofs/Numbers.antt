@@ -9,21 +9,21 @@ use lib.Seq.{getD-drop}
 use lib.Dec.{eqb}
 use borrow.Author.Tests.{eq-eqb, ne-eqb}
 use Rattle.model.specs.Lists.{every, distinct}
-use Rattle.numbers.specs.Bytes.{be16, Bytes}
-use Rattle.facts.specs.Facts.{factsIn, factsOf, dirStart, dirLength, N, S, nextNumber, blocksIn}
+use Rattle.model.specs.Bytes.{be16, Bytes}
+use Rattle.model.specs.Facts.{factsIn, factsOf, dirStart, dirLength, N, S, nextNumber, blocksIn}
 use Rattle.model.specs.Map.{mapEntry}
 use Rattle.model.specs.Directory.{directory, forksIn}
 use Rattle.model.specs.Check.{orElse, fires1, fires2, fires3, fires4, fires5, fires6, goodNumber, sameNumbers, sameNames, fires7}
 use Rattle.model.specs.Check.{from8, from7, from6, from5, from4, from3, from2, SoundFacts}
-use Rattle.facts.specs.declared.VolumeFacts.{VolumeFacts}
+use Rattle.model.specs.declared.VolumeFacts.{VolumeFacts}
 use Rattle.model.proofs.Check.{else-zero, sound-facts}
 use Rattle.directory.specs.declared.Cursor.{Cursor}
 use Rattle.directory.specs.Cursor.{restOf, Begins}
 use Rattle.directory.proofs.Whole.{begins-directory}
 use Rattle.checks.specs.Numbers.{directoryNumber, Judged}
-use Rattle.limits.specs.Limits.{factsNumber, Sized}
-use Rattle.limits.proofs.Firing.{fires-here, passes-here}
-use Rattle.limits.proofs.Numbered.{long-blocks}
+use Rattle.checks.specs.Limits.{factsNumber, Sized}
+use Rattle.checks.proofs.Firing.{fires-here, passes-here}
+use Rattle.checks.proofs.Numbered.{long-blocks}
 
 -- ---- some checks and those behind them
 

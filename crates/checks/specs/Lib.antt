@@ -1,1 +1,5 @@
+pub mod Limits
+pub mod Tallied
+pub mod Same
+pub mod Table
 pub mod Numbers

@@ -4,13 +4,13 @@ use mathlib.Core.Path.{_≡_}
 use mathlib.Core.Bool.{Bool, true, false}
 use mathlib.Core.List.{List}
 use lib.ListN.{length}
-use Rattle.facts.specs.Facts.{factsOf, dirStart, N, S}
+use Rattle.model.specs.Facts.{factsOf, dirStart, N, S}
 use Rattle.model.specs.Directory.{ownedBlocks}
 use Rattle.model.specs.Check.{orElse, fires1, fires6, fires7, SoundFacts}
-use Rattle.packed.specs.Decoded.{Decoded}
+use Rattle.blockmap.specs.Decoded.{Decoded}
 use Rattle.blockmap.specs.Marks.{marked, claimAll}
 use Rattle.directory.specs.Cursor.{Passes}
-use Rattle.facts.specs.declared.VolumeFacts.{VolumeFacts}
+use Rattle.model.specs.declared.VolumeFacts.{VolumeFacts}
 use Rattle.model.specs.declared.ForkFacts.{ForkFacts}
 use Rattle.directory.specs.declared.Cursor.{Cursor}
 

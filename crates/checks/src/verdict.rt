@@ -5,21 +5,21 @@ ghost use Prim.Native.Nat.{_≤_};
 ghost use Rattle.model.specs.Check.{from2, from8};
 ghost use Rattle.model.specs.Directory.{forksIn};
 ghost use Rattle.model.specs.Map.{mapEntry};
-ghost use Rattle.packed.specs.Decoded.{entryIn, Decoded};
+ghost use Rattle.blockmap.specs.Decoded.{entryIn, Decoded};
 ghost use Rattle.directory.specs.Cursor.{restOf, Fits, Passes};
 ghost use Rattle.checks.specs.Numbers.{directoryNumber, Claims, Judged, Mapped};
+use crate::limits::facts_number;
 use directory::Cursor;
 use directory::Step;
-use facts::VolumeFacts;
-use limits::facts_number;
 use model::Fork;
+use model::VolumeFacts;
 
 // Checks 6 and 7.
 fn directory_number(image: &[u8], c: Cursor, files: u16, next: u32) -> u8
     requires { ⌜ Fits (now image) c ⌝ }
     ensures { λ r. ⌜ r ≡ directoryNumber files next (restOf (now (image .entry)) c) ⌝ }
 {
-    let t = tally::count_entries(image, c, next);
+    let t = crate::tally::count_entries(image, c, next);
     if t.bad {
         return 6;
     }
@@ -29,7 +29,7 @@ fn directory_number(image: &[u8], c: Cursor, files: u16, next: u32) -> u8
     if !t.numbered {
         return 7;
     }
-    if !repeats::all_differ(image, c, t.count) {
+    if !crate::differ::all_differ(image, c, t.count) {
         return 7;
     }
     0
@@ -52,12 +52,12 @@ fn claim_all(
     loop {
         match c.next(image) {
             Step::Entry(e, behind) => {
-                let data = fields::read_fork(image, e, Fork::Data);
-                if !chains::claim_fork(entries, n, a, data, marks) {
+                let data = directory::read_fork(image, e, Fork::Data);
+                if !blockmap::claim_fork(entries, n, a, data, marks) {
                     return false;
                 }
-                let resource = fields::read_fork(image, e, Fork::Resource);
-                if !chains::claim_fork(entries, n, a, resource, marks) {
+                let resource = directory::read_fork(image, e, Fork::Resource);
+                if !blockmap::claim_fork(entries, n, a, resource, marks) {
                     return false;
                 }
                 c = behind;
@@ -101,7 +101,7 @@ pub fn judge(image: &[u8], f: VolumeFacts) -> u8
     if number != 0 {
         return number;
     }
-    let entries = packed::decode(image, f.allocation_blocks);
+    let entries = blockmap::decode(image, f.allocation_blocks);
     if blockmap::any_bad(&entries, f.allocation_blocks) {
         return 5;
     }

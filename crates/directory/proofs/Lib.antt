@@ -1,4 +1,6 @@
-pub mod Steps
 pub mod Parts
+pub mod Steps
 pub mod Each
 pub mod Whole
+pub mod Same
+pub mod Tests

@@ -6,7 +6,7 @@ use native.Mathlib.Omega.{arith}
 use native.Mathlib.Nat.{add-assoc, add-sub-cancel-left}
 use lib.ListN.{length, take, drop}
 use lib.Seq.{getD-take, getD-drop, drop-drop, take-take}
-use Rattle.numbers.specs.Bytes.{byte, be16, be32, zeros, part}
+use Rattle.model.specs.Bytes.{byte, be16, be32, zeros, part}
 use Rattle.model.specs.Directory.{padded, numberIn, nameIn, finderIn, forkIn, forkPlace, forkOf, wide, entryIn}
 use Rattle.model.specs.declared.DirectoryEntry.{DirectoryEntry}
 use Rattle.model.specs.declared.ForkFacts.{ForkFacts}

@@ -11,7 +11,7 @@ use lib.Seq.{length-take-le, getD-drop, drop-drop}
 use lib.Dec.{leb, ltb}
 use borrow.Author.Tests.{le-leb, lt-leb, lt-ltb, le-ltb, eq-eqb, ne-eqb}
 use Rattle.model.specs.Lists.{flat}
-use Rattle.numbers.specs.Bytes.{byte, part}
+use Rattle.model.specs.Bytes.{byte, part}
 use Rattle.model.specs.Directory.{padded, entrySize, inUse, endsAt, nextPlace, readAt, entries, cutBlocks, listing}
 use Rattle.model.specs.Check.{goodEntry}
 use Rattle.model.proofs.Lists.{flat-append}

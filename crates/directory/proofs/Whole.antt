@@ -6,7 +6,7 @@ use mathlib.Core.Bool.{false}
 use mathlib.Core.List.{List}
 use native.Mathlib.Omega.{arith}
 use lib.ListN.{length}
-use Rattle.facts.specs.Facts.{factsOf, dirStart, dirLength}
+use Rattle.model.specs.Facts.{factsOf, dirStart, dirLength}
 use Rattle.model.specs.Directory.{directory, directoryBlocks}
 use Rattle.model.specs.Check.{fires6, SoundFacts}
 use Rattle.directory.specs.declared.Cursor.{Cursor}

@@ -5,7 +5,7 @@ use mathlib.Core.Bool.{true, false}
 use mathlib.Core.List.{List, [], _∷_, _++_}
 use lib.ListN.{length, drop}
 use Rattle.model.specs.Lists.{flat}
-use Rattle.numbers.specs.Bytes.{byte, part}
+use Rattle.model.specs.Bytes.{byte, part}
 use Rattle.model.specs.Directory.{padded, readAt, entries, cutBlocks, listing}
 use Rattle.model.specs.Check.{goodEntry, fires6}
 use Rattle.directory.specs.declared.Cursor.{Cursor}

@@ -1,6 +1,16 @@
-// The directory: its entries in order.
+// The directory: its entries in order, the fields of an entry, names compared without case, entries found by name and by place.
+mod fields;
+mod names;
 mod places;
 mod reading;
+mod search;
+
+pub use fields::number_of;
+pub use fields::read_entry;
+pub use fields::read_fork;
+pub use names::same_name;
+pub use search::entry_at;
+pub use search::locate;
 
 // A place in the directory's reading.
 pub struct Cursor {
@@ -27,4 +37,11 @@ pub enum Step {
     End,
     // The next entry crosses its block, has name length 0 or version other than 0.
     Bad,
+}
+
+// What a search finds.
+pub enum Found {
+    // The entry, with its place in directory order.
+    At(usize, EntryAt),
+    Nothing,
 }

@@ -7,7 +7,7 @@ ghost use Rattle.directory.specs.Cursor.{blockOf, Fits, Stepped, Begins}
 use crate::Cursor;
 use crate::EntryAt;
 use crate::Step;
-use facts::LogicalBlock;
+use model::LogicalBlock;
 
 impl Cursor {
     // Bytes in a directory block.

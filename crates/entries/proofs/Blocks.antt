@@ -9,7 +9,7 @@ use lib.ListN.{length, take, drop, set, length-append, length-drop, length-repli
 use lib.Seq.{paste, paste-suc, take-paste, drop-paste, drop-drop, take-all, take-take, length-take-le, getD-drop}
 use borrow.Author.Tests.{eqb-true, not-false}
 use Rattle.model.specs.Lists.{every, flat}
-use Rattle.numbers.specs.Bytes.{byte, zeros, part}
+use Rattle.model.specs.Bytes.{byte, zeros, part}
 use Rattle.model.specs.Directory.{padded, entrySize, readAt, entries, readEnd, cutBlocks, listing}
 use Rattle.model.specs.Check.{goodEntry, fires6}
 use Rattle.model.specs.Calls.{filled}

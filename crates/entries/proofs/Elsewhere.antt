@@ -6,10 +6,10 @@ use native.Mathlib.Omega.{arith}
 use lib.ListN.{length, take, drop, getD}
 use lib.Seq.{drop-drop}
 use Rattle.model.specs.Lists.{flat}
-use Rattle.numbers.specs.Bytes.{byte, part}
-use Rattle.facts.specs.Facts.{dirStart, dirLength}
+use Rattle.model.specs.Bytes.{byte, part}
+use Rattle.model.specs.Facts.{dirStart, dirLength}
 use Rattle.model.specs.Directory.{padded, entries, cutBlocks, directoryBlocks}
-use Rattle.facts.specs.declared.VolumeFacts.{VolumeFacts}
+use Rattle.model.specs.declared.VolumeFacts.{VolumeFacts}
 use Rattle.directory.specs.declared.EntryAt.{EntryAt}
 use Rattle.directory.specs.Cursor.{bytesAt, Stands, Lies}
 use Rattle.directory.proofs.Parts.{part-part, part-byte}

@@ -2,3 +2,5 @@ pub mod Stored
 pub mod Located
 pub mod Blocks
 pub mod Elsewhere
+pub mod Rooming
+pub mod Inserting

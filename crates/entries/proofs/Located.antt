@@ -7,12 +7,12 @@ use native.Mathlib.Omega.{arith}
 use lib.ListN.{length, take, drop, length-append}
 use lib.Seq.{sets, paste, drop-drop}
 use Rattle.model.specs.Lists.{every, any, distinct, flat}
-use Rattle.numbers.specs.Bytes.{u32, part}
-use Rattle.facts.specs.Facts.{dirStart, dirLength}
+use Rattle.model.specs.Bytes.{u32, part}
+use Rattle.model.specs.Facts.{dirStart, dirLength}
 use Rattle.model.specs.Directory.{entries, readAt, cutBlocks, directoryBlocks, listing, forkPlace, named}
 use Rattle.model.specs.Check.{goodEntry, sameNames, fires6}
 use Rattle.model.specs.Calls.{filled, removedIn, removed, rewrittenIn, rewritten, withFork, withDirectory}
-use Rattle.facts.specs.declared.VolumeFacts.{VolumeFacts}
+use Rattle.model.specs.declared.VolumeFacts.{VolumeFacts}
 use Rattle.model.specs.declared.Fork.{Fork}
 use Rattle.model.proofs.Lists.{and-true, or-false, any-append, every-append, flat-append, not-so, so-not}
 use Rattle.laws.proofs.Reorder.{none-behind, Alone}

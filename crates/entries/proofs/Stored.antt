@@ -4,7 +4,7 @@ use mathlib.Core.Path.{_≡_, ap, _∙_}
 use mathlib.Core.List.{List, _++_}
 use native.Mathlib.Omega.{arith}
 use lib.Seq.{sets}
-use Rattle.numbers.specs.Bytes.{u16, u32}
+use Rattle.model.specs.Bytes.{u16, u32}
 use Rattle.model.specs.declared.ForkFacts.{ForkFacts}
 
 -- a fork's fields

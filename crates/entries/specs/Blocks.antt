@@ -5,7 +5,7 @@ use mathlib.Core.Bool.{false}
 use mathlib.Core.List.{List, _++_}
 use lib.ListN.{length}
 use lib.Seq.{paste}
-use Rattle.numbers.specs.Bytes.{part}
+use Rattle.model.specs.Bytes.{part}
 use Rattle.model.specs.Directory.{entries}
 use Rattle.model.specs.Check.{fires6}
 use Rattle.model.specs.Calls.{filled}

@@ -8,12 +8,12 @@ use native.Mathlib.Omega.{arith}
 use lib.ListN.{length}
 use lib.Seq.{sets}
 use Rattle.model.specs.Lists.{distinct, flat}
-use Rattle.numbers.specs.Bytes.{u32}
-use Rattle.facts.specs.Facts.{factsOf, dirStart, dirLength}
+use Rattle.model.specs.Bytes.{u32}
+use Rattle.model.specs.Facts.{factsOf, dirStart, dirLength}
 use Rattle.model.specs.Directory.{padded, listing, directory, directoryBlocks, forkPlace, named}
 use Rattle.model.specs.Check.{Accepted, sameNames}
 use Rattle.model.specs.Calls.{removed, rewritten, withFork, withDirectory}
-use Rattle.facts.specs.declared.VolumeFacts.{VolumeFacts}
+use Rattle.model.specs.declared.VolumeFacts.{VolumeFacts}
 use Rattle.model.specs.declared.Fork.{Fork}
 use Rattle.model.proofs.Check.{accepted-passes}
 use Rattle.laws.proofs.Blocks.{Cleans}

@@ -8,17 +8,17 @@ use native.Mathlib.Omega.{arith}
 use native.Mathlib.Nat.{zero-div}
 use lib.ListN.{length}
 use Rattle.model.specs.Lists.{placeOf}
-use Rattle.facts.specs.Facts.{N, A, S, freeCount}
+use Rattle.model.specs.Facts.{N, A, S, freeCount}
 use Rattle.model.specs.Map.{mapEntry, runs, freeBlocks}
 use Rattle.model.specs.Directory.{directory, named, forkOf}
 use Rattle.model.specs.Check.{SoundFork}
 use Rattle.model.specs.Calls.{entryNamed}
 use Rattle.model.proofs.Map.{chain-runs}
 use Rattle.history.proofs.Answers.{first-found, sound-fork}
-use Rattle.chains.specs.Places.{HasPlace}
-use Rattle.chains.proofs.Marks.{sound-most}
+use Rattle.blockmap.specs.Places.{HasPlace}
+use Rattle.blockmap.proofs.Marks.{sound-most}
 use Rattle.directory.specs.Cursor.{bytesAt}
-use Rattle.facts.specs.declared.VolumeFacts.{VolumeFacts}
+use Rattle.model.specs.declared.VolumeFacts.{VolumeFacts}
 use Rattle.model.specs.declared.Fork.{Fork}
 use Rattle.model.specs.declared.ForkFacts.{ForkFacts}
 use Rattle.directory.specs.declared.EntryAt.{EntryAt}

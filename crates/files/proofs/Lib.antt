@@ -4,3 +4,5 @@ pub mod Lookups
 pub mod Forks
 pub mod Elsewhere
 pub mod Owned
+pub mod Replies
+pub mod Refusing

@@ -3,7 +3,7 @@ use Prim.Native.Nat.{ℕ, _+_}
 use mathlib.Core.Path.{_≡_}
 use mathlib.Core.List.{List}
 use native.Mathlib.Omega.{arith}
-use Rattle.numbers.specs.Bytes.{byte}
+use Rattle.model.specs.Bytes.{byte}
 use Rattle.model.specs.Directory.{padded}
 use Rattle.directory.specs.declared.EntryAt.{EntryAt}
 use Rattle.directory.specs.Cursor.{bytesAt, Stands}

@@ -7,20 +7,20 @@ use mathlib.Core.List.{List}
 use native.Mathlib.Omega.{arith}
 use lib.ListN.{length}
 use borrow.Author.Tests.{eq-eqb, ne-eqb, lt-ltb, le-ltb}
-use Rattle.facts.specs.Facts.{factsOf, dirStart, dirLength}
+use Rattle.model.specs.Facts.{factsOf, dirStart, dirLength}
 use Rattle.model.specs.Lists.{any}
 use Rattle.model.specs.Directory.{directory, named}
 use Rattle.model.specs.Calls.{badName}
 use Rattle.model.proofs.Check.{accepted-passes}
 use Rattle.directory.specs.Cursor.{restOf, Passes, Begins}
-use Rattle.search.specs.Search.{Finds, Located, Gives, Placed}
+use Rattle.directory.specs.Search.{Finds, Located, Gives, Placed}
 use Rattle.directory.proofs.Whole.{begins-directory, sound-passes}
 use Rattle.entries.proofs.Located.{begins-comes}
-use Rattle.facts.specs.declared.VolumeFacts.{VolumeFacts}
+use Rattle.model.specs.declared.VolumeFacts.{VolumeFacts}
 use Rattle.directory.specs.declared.Cursor.{Cursor}
 use Rattle.directory.specs.declared.EntryAt.{EntryAt}
-use Rattle.search.specs.declared.Found as sort
-use Rattle.search.specs.declared.Found.the-variants as found
+use Rattle.directory.specs.declared.Found as sort
+use Rattle.directory.specs.declared.Found.the-variants as found
 use Rattle.files.specs.declared.Named.{Named}
 use Rattle.files.specs.declared.Named.the-variants.{At, Refused}
 use Rattle.files.specs.Lookup.{Readable, Found, Missed, Names}

@@ -5,7 +5,7 @@ use native.Mathlib.Omega.{arith}
 use lib.ListN.{getD}
 use mir.Syntax.{w8}
 use mir.Val as val
-use Rattle.numbers.specs.Bytes.{Bytes}
+use Rattle.model.specs.Bytes.{Bytes}
 
 pub octets : (l : List ℕ) → ((i : ℕ) → val.Fits w8 (getD l i 0)) → Bytes l
 unfolding Bytes

@@ -4,7 +4,7 @@ use mathlib.Core.Path.{_≡_, sym, subst}
 use mathlib.Core.Bool.{true}
 use mathlib.Core.List.{List, []}
 use native.Mathlib.Omega.{arith}
-use Rattle.facts.specs.Facts.{factsOf, N, A, freeCount}
+use Rattle.model.specs.Facts.{factsOf, N, A, freeCount}
 use Rattle.model.specs.Map.{mapEntry, runs}
 use Rattle.model.specs.Directory.{directory, named, forkOf, blockCount}
 use Rattle.model.specs.Calls.{entryNamed}
@@ -15,7 +15,7 @@ use Rattle.history.proofs.Answers.{first-found}
 use Rattle.history.proofs.Rewrites.{theEntry, the-entry}
 use Rattle.history.proofs.BytesKept.{named-counts}
 use Rattle.directory.specs.Cursor.{bytesAt}
-use Rattle.facts.specs.declared.VolumeFacts.{VolumeFacts}
+use Rattle.model.specs.declared.VolumeFacts.{VolumeFacts}
 use Rattle.model.specs.declared.Fork.{Fork}
 use Rattle.model.specs.declared.Fork.the-variants.{Data, Resource}
 use Rattle.model.specs.declared.ForkFacts.{ForkFacts}

@@ -4,7 +4,7 @@ use mathlib.Core.Path.{_≡_}
 use mathlib.Core.List.{List}
 use Rattle.model.specs.Calls.{written, shortened, deleted}
 use Rattle.directory.specs.Cursor.{bytesAt}
-use Rattle.facts.specs.declared.VolumeFacts.{VolumeFacts}
+use Rattle.model.specs.declared.VolumeFacts.{VolumeFacts}
 use Rattle.model.specs.declared.Fork.{Fork}
 use Rattle.model.specs.declared.ForkFacts.{ForkFacts}
 use Rattle.directory.specs.declared.EntryAt.{EntryAt}

@@ -3,15 +3,15 @@ use Prim.Native.Nat.{ℕ, _*_}
 use mathlib.Core.Path.{_≡_}
 use mathlib.Core.Bool.{false, not}
 use mathlib.Core.List.{List}
-use Rattle.facts.specs.Facts.{factsOf, dirStart, dirLength}
+use Rattle.model.specs.Facts.{factsOf, dirStart, dirLength}
 use Rattle.model.specs.Lists.{any}
 use Rattle.model.specs.Directory.{directory, forkOf, named}
 use Rattle.model.specs.Check.{orElse, Accepted}
 use Rattle.model.specs.Calls.{badName}
 use Rattle.directory.specs.Cursor.{bytesAt, Lies}
-use Rattle.search.specs.Search as search
+use Rattle.directory.specs.Search as search
 use Rattle.directory.specs.declared.EntryAt.{EntryAt}
-use Rattle.facts.specs.declared.VolumeFacts.{VolumeFacts}
+use Rattle.model.specs.declared.VolumeFacts.{VolumeFacts}
 use Rattle.model.specs.declared.Fork.{Fork}
 use Rattle.model.specs.declared.ForkFacts.{ForkFacts}
 use Rattle.files.specs.declared.Named.{Named}

@@ -1,10 +1,16 @@
-// A named file of an accepted volume: found, and its locks.
+// A named file of an accepted volume: found, and its locks. The answers of the calls, and the zeros that a refusal gives.
+mod answers;
 mod locks;
 mod searching;
 
+pub use answers::no_entry;
+pub use answers::no_facts;
 use directory::EntryAt;
 pub use locks::file_locked;
 pub use locks::is_locked;
+use model::AllocationBlock;
+use model::DirectoryEntry;
+use model::VolumeFacts;
 pub use searching::first_entry;
 pub use searching::lookup;
 
@@ -12,4 +18,31 @@ pub use searching::lookup;
 pub enum Named {
     At(usize, EntryAt),
     Refused(u8),
+}
+
+// Each answer begins with its number: 0, or that of the refusal, and then all else is zero.
+pub struct CheckAnswer {
+    pub number: u8,
+    pub facts: VolumeFacts,
+}
+
+pub struct EntryAnswer {
+    pub number: u8,
+    pub entry: DirectoryEntry,
+}
+
+pub struct FindAnswer {
+    pub number: u8,
+    pub place: u64,
+    pub entry: DirectoryEntry,
+}
+
+pub struct BlockAnswer {
+    pub number: u8,
+    pub block: AllocationBlock,
+}
+
+pub struct ReadAnswer {
+    pub number: u8,
+    pub count: usize,
 }

@@ -1,11 +1,11 @@
 // Locks of the volume and of a file.
 ghost use mathlib.Core.Path.{_≡_};
-ghost use Rattle.numbers.specs.Bytes.{byte};
+ghost use Rattle.model.specs.Bytes.{byte};
 ghost use Rattle.model.specs.Directory.{flagsLock};
-ghost use Rattle.facts.specs.Facts.{isLocked};
+ghost use Rattle.model.specs.Facts.{isLocked};
 ghost use Rattle.directory.specs.Cursor.{bytesAt, Stands};
 use directory::EntryAt;
-use facts::VolumeFacts;
+use model::VolumeFacts;
 
 // Whether the volume is locked.
 pub fn is_locked(f: VolumeFacts) -> bool

@@ -1,12 +1,12 @@
 // From a name to its entry: refusals 12 and 13.
 ghost use Prim.Native.Nat.{_≤_};
-ghost use Rattle.facts.specs.Facts.{dirStart, dirLength};
+ghost use Rattle.model.specs.Facts.{dirStart, dirLength};
 ghost use Rattle.directory.specs.Cursor.{Begins};
 ghost use Rattle.files.specs.Lookup.{Readable, Names};
 use crate::Named;
 use directory::Cursor;
-use facts::VolumeFacts;
-use search::Found;
+use directory::Found;
+use model::VolumeFacts;
 
 // At the first entry of the volume's directory.
 pub fn first_entry(f: VolumeFacts) -> Cursor
@@ -28,7 +28,7 @@ pub fn lookup(image: &[u8], f: VolumeFacts, name: &[u8]) -> Named
     if 255 < name.len() {
         return Named::Refused(12);
     }
-    match search::locate(image, first_entry(f), name) {
+    match directory::locate(image, first_entry(f), name) {
         Found::At(place, e) => Named::At(place, e),
         Found::Nothing => Named::Refused(13),
     }

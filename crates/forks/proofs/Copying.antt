@@ -9,8 +9,8 @@ use mir.Syntax.{w16, w64}
 use mir.Val.{Fits}
 use lib.ListN.{length, getD, take, drop, length-drop}
 use lib.Seq.{paste, take-at, take-add, drop-drop, take-append-le, drop-append-le, drop-append-add, length-take-le}
-use Rattle.numbers.specs.Bytes.{part}
-use Rattle.facts.specs.Facts.{factsOf, N, A, S, blockByte}
+use Rattle.model.specs.Bytes.{part}
+use Rattle.model.specs.Facts.{factsOf, N, A, S, blockByte}
 use Rattle.model.specs.Map.{mapEntry, runs, chainBlocks}
 use Rattle.model.specs.Directory.{directory, forkOf, blockCount, forkBlocks}
 use Rattle.model.specs.Check.{SoundFork, Accepted}
@@ -23,8 +23,8 @@ use Rattle.laws.proofs.Chains.{good}
 use Rattle.laws.proofs.Content.{Inside, length-bytes, part-take}
 use Rattle.history.proofs.Answers.{sound-fork}
 use Rattle.history.proofs.Reading.{area}
-use Rattle.chains.specs.Places.{HasPlace, IsPlace}
-use Rattle.chains.proofs.Chains.{chain-most}
+use Rattle.blockmap.specs.Places.{HasPlace, IsPlace}
+use Rattle.blockmap.proofs.Chains.{chain-most}
 use Rattle.forks.specs.Content.{Copyable}
 
 -- ---- the buffer

@@ -9,8 +9,8 @@ use native.Mathlib.Nat.{add-assoc, mul-le-mul-right, div-add-mod', div-lt-iff-lt
 use lib.ListN.{length, getD, take, drop, length-drop, take-append-drop}
 use lib.Seq.{paste, paste-zero, take-at, drop-at, drop-drop, take-add, take-take, take-append-le, drop-append-le, take-append-add, drop-append-add, length-take-le, length-paste, take-length, drop-length}
 use Rattle.model.specs.Lists.{times}
-use Rattle.numbers.specs.Bytes.{part}
-use Rattle.facts.specs.Facts.{blockByte}
+use Rattle.model.specs.Bytes.{part}
+use Rattle.model.specs.Facts.{blockByte}
 use Rattle.model.specs.Map.{mapEntry, runs, chainBlocks}
 use Rattle.model.specs.Calls.{bytesOf, putBlocks, putContent}
 use Rattle.model.proofs.Times.{times-head, times-tail}
@@ -18,8 +18,8 @@ use Rattle.laws.proofs.Joins.{other}
 use Rattle.model.proofs.Map.{runs-block, runs-rest, block-low, block-high, chain-low, chain-high, chain-once}
 use Rattle.laws.proofs.Content.{Inside, bytes-same, part-clear, blocks-apart}
 use Rattle.laws.proofs.Alike.{entries-frame}
-use Rattle.chains.specs.Places.{HasPlace, IsPlace}
-use Rattle.chains.proofs.Chains.{chain-most}
+use Rattle.blockmap.specs.Places.{HasPlace, IsPlace}
+use Rattle.blockmap.proofs.Chains.{chain-most}
 use Rattle.forks.specs.Content.{Fillable}
 
 -- ---- pastes

@@ -1,3 +1,4 @@
 pub mod Moves
 pub mod Copying
 pub mod Filling
+pub mod Growing

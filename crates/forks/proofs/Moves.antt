@@ -6,7 +6,7 @@ use native.Mathlib.Omega.{arith}
 use native.Mathlib.Numerals.{add-one}
 use lib.ListN.{length, set, take, drop, length-drop}
 use lib.Seq.{paste, paste-suc, take-suc, take-suc-set, take-paste, drop-paste, take-add, drop-drop, getD-drop}
-use Rattle.numbers.specs.Bytes.{byte}
+use Rattle.model.specs.Bytes.{byte}
 
 -- i bytes of s stand in l from place `to` on: one more
 pub move-byte : (l s : List ℕ) (to i : ℕ) → to + i < length l → i < length s → set (paste l to s i) (to + i) (byte s i) ≡ paste l to s (i + 1)

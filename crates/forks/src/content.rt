@@ -3,14 +3,14 @@ ghost use mathlib.Core.Path.{_≡_};
 ghost use mathlib.Core.List.{_++_};
 ghost use Prim.Native.Nat.{_+_, _*_, _≤_, min};
 ghost use lib.ListN.{length, drop};
-ghost use Rattle.numbers.specs.Bytes.{part};
+ghost use Rattle.model.specs.Bytes.{part};
 ghost use Rattle.model.specs.Calls.{forkBytes, putContent, readCount, copied};
 ghost use Rattle.model.specs.Map.{mapEntry, chainBlocks};
 ghost use Rattle.forks.specs.Content.{Copyable, Fillable};
 use crate::moving::copy_part;
-use facts::AllocationBlock;
-use facts::LogicalBlock;
+use model::AllocationBlock;
 use model::ForkFacts;
+use model::LogicalBlock;
 
 fn smaller(a: usize, b: usize) -> usize
     ensures { λ r. ⌜ r ≡ min a b ⌝ }
@@ -35,7 +35,7 @@ fn copy_blocks(
     ensures { λ r. ⌜ now (buffer .exit) ≡ part offset count (forkBytes (start .0) size (now (image .entry)) g) ++ drop count (now (buffer .entry)) ⌝ }
 {
     let a = size as usize;
-    let mut b = chains::block_at(image, g.start, (offset / a) as u16);
+    let mut b = blockmap::block_at(image, g.start, (offset / a) as u16);
     let mut within = offset % a;
     let mut done = 0;
     loop {
@@ -47,7 +47,7 @@ fn copy_blocks(
             return;
         }
         within = 0;
-        b = AllocationBlock(packed::load(image, b));
+        b = AllocationBlock(blockmap::load(image, b));
     }
 }
 
@@ -90,7 +90,7 @@ pub fn fill_fork(
         return;
     }
     let a = size as usize;
-    let mut block = chains::block_at(image, first, (offset / a) as u16);
+    let mut block = blockmap::block_at(image, first, (offset / a) as u16);
     let mut at = offset % a;
     let mut stored = 0;
     loop {
@@ -102,6 +102,6 @@ pub fn fill_fork(
             return;
         }
         at = 0;
-        block = AllocationBlock(packed::load(image, block));
+        block = AllocationBlock(blockmap::load(image, block));
     }
 }

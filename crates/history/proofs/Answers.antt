@@ -12,8 +12,8 @@ use lib.ListN.{length, getD, length-append, length-map, length-take, length-drop
 use lib.Dec.{eqb, leb, ltb, eqb·suc-zero}
 use borrow.Author.Tests.{not-false, eqb-true, eqb-false, eq-eqb, ne-eqb, ltb-true, ltb-false, lt-ltb, le-ltb, leb-false}
 use Rattle.model.specs.Lists.{every, any, distinct, first, placeOf}
-use Rattle.numbers.specs.Bytes.{byte, be16, be32, firstOf}
-use Rattle.facts.specs.Facts.{factsOf, dirStart, dirLength, N, A, S, nextNumber, freeCount, isLocked, withCounts, noFacts}
+use Rattle.model.specs.Bytes.{byte, be16, be32, firstOf}
+use Rattle.model.specs.Facts.{factsOf, dirStart, dirLength, N, A, S, nextNumber, freeCount, isLocked, withCounts, noFacts}
 use Rattle.model.specs.Map.{mapEntry}
 use Rattle.model.specs.Directory.{padded, entrySize, directoryBlocks, directory, numberIn, nameIn, finderIn, forkIn, forkOf, wide, entryIn}
 use Rattle.model.specs.Directory.{noEntry, flagsLock, forksIn, blockCount, sameName, named}
@@ -24,8 +24,8 @@ use Rattle.model.specs.Calls.Call.{check, entry, find, block, read, create, wri
 use Rattle.history.specs.History.{Held, File, History, empty, noFile, heldOf, freeOf, factsNow, called, fileCalled, knownTo, declines, unplaced}
 use Rattle.history.specs.History.{withoutStarts, toldBy, lengthsOf, entryOf, toldOnly, fileNumbered, says, tells, heldIn, fileIn, filesIn, Agrees}
 use Rattle.history.specs.History.{asked, writes, moves, step, changes, rise, NoRoom, RoomRule}
-use Rattle.numbers.specs.Bytes.{overwritten}
-use Rattle.facts.specs.declared.VolumeFacts.{VolumeFacts}
+use Rattle.model.specs.Bytes.{overwritten}
+use Rattle.model.specs.declared.VolumeFacts.{VolumeFacts}
 use Rattle.model.specs.declared.Fork.{Fork}
 use Rattle.model.specs.declared.Fork.the-variants.{Data, Resource}
 use Rattle.model.proofs.Lists.{and-true, or-false, reordered-any, reordered-length}

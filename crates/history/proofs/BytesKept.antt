@@ -9,15 +9,15 @@ use native.Mathlib.Nat.{mul-le-mul-right}
 use lib.ListN.{length, getD, take, drop, length-append, length-take, length-drop}
 use lib.Seq.{sets}
 use Rattle.model.specs.Lists.{any, keep, placeOf, flat, firstOr0, times}
-use Rattle.numbers.specs.Bytes.{u16, u32, zeros, part, Bytes}
-use Rattle.facts.specs.Facts.{factsOf, factsIn, dirStart, dirLength, N, A, S, nextNumber, freeCount}
+use Rattle.model.specs.Bytes.{u16, u32, zeros, part, Bytes}
+use Rattle.model.specs.Facts.{factsOf, factsIn, dirStart, dirLength, N, A, S, nextNumber, freeCount}
 use Rattle.model.specs.Map.{mapEntry, freeBlocks, putChain, putFree}
 use Rattle.model.specs.Directory.{entrySize, endsAt, nextPlace, readAt, entries, readEnd, cutBlocks, directoryBlocks, listing, directory, forkPlace, forkOf, forksIn, blockCount, forkBlocks, named}
 use Rattle.model.specs.Check.{SoundFork, Accepted}
 use Rattle.model.specs.Calls.{fewest, grown, needed, entryNamed, hasRoom, putContent, filled, newEntry, placed, removedIn, removed, onNamed, rewrittenIn, rewritten, withFork}
 use Rattle.model.specs.Calls.{withDirectory, withFiles, withNext, withFree, created, written, shortened, deleted, change, Fits}
 use Rattle.model.specs.Calls.Call.{create, write, cut, delete}
-use Rattle.facts.specs.declared.VolumeFacts.{VolumeFacts}
+use Rattle.model.specs.declared.VolumeFacts.{VolumeFacts}
 use Rattle.model.specs.declared.Fork.{Fork}
 use Rattle.model.specs.declared.Fork.the-variants.{Data, Resource}
 use Rattle.model.proofs.Times.{times-append}

@@ -10,15 +10,15 @@ use lib.Seq.{length-take-le, drop-append-le, drop-length, take-append-seam}
 use lib.Dec.{eqb, ltb}
 use borrow.Author.Tests.{not-false, eqb-true, eq-eqb, ltb-false, le-ltb}
 use Rattle.model.specs.Lists.{any, keep, first, flat, Reordered, none, next, swap, then}
-use Rattle.numbers.specs.Bytes.{Bytes, part}
-use Rattle.facts.specs.Facts.{factsOf, N, A, freeCount}
+use Rattle.model.specs.Bytes.{Bytes, part}
+use Rattle.model.specs.Facts.{factsOf, N, A, freeCount}
 use Rattle.model.specs.Map.{mapEntry}
 use Rattle.model.specs.Directory.{directory, forkOf, forksIn, blockCount, sameName}
 use Rattle.model.specs.Check.{Accepted}
 use Rattle.model.specs.Calls.{Call, Answer, nameOf, forkGiven, Known, badName, refuses, entryNamed, knownIn, readCount, copied, answer, after, lent, Does}
 use Rattle.model.specs.Calls.Call.{check, entry, find, block, read, create, write, cut, delete}
 use Rattle.history.specs.History.{File, History, blocksOf, noFile, heldOf, called, fileCalled, knownTo, declines, writes}
-use Rattle.numbers.specs.Bytes.{overwritten}
+use Rattle.model.specs.Bytes.{overwritten}
 use Rattle.history.specs.History.{changedFork, onCalled, moves, step, Told, toldBy, toldOnly, says, tells, filesIn, reading, Agrees, Event, Run}
 use Rattle.history.specs.History.{isFull, asked, changes, RoomRule, Step, Holds, EveryRun}
 use Rattle.history.specs.Among.{Has, lastImage}

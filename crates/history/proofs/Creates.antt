@@ -6,14 +6,14 @@ use mathlib.Core.List.{List, [], _∷_, _++_, map, map-append}
 use native.Mathlib.Omega.{arith}
 use lib.ListN.{length}
 use Rattle.model.specs.Lists.{any, times, Reordered}
-use Rattle.facts.specs.Facts.{factsOf, N, A, S, nextNumber, freeCount, withCounts}
+use Rattle.model.specs.Facts.{factsOf, N, A, S, nextNumber, freeCount, withCounts}
 use Rattle.model.specs.Map.{mapEntry}
 use Rattle.model.specs.Directory.{directory, directoryBlocks, listing, forkOf, forksIn, blockCount, named}
 use Rattle.model.specs.Check.{Accepted}
 use Rattle.model.specs.Calls.{Call, newEntry, placed, withDirectory, withFiles, withNext, created, change, forkBytes}
 use Rattle.model.specs.Calls.Call.{create}
 use Rattle.history.specs.History.{Held, File, History, empty, heldIn, fileIn, filesIn, factsNow, newFile, moves, namedBlocks, OnlyNamed, Agrees}
-use Rattle.facts.specs.declared.VolumeFacts.{VolumeFacts}
+use Rattle.model.specs.declared.VolumeFacts.{VolumeFacts}
 use Rattle.model.specs.declared.ForkFacts.{ForkFacts}
 use Rattle.model.specs.declared.Fork.{Fork}
 use Rattle.model.specs.declared.Fork.the-variants.{Data, Resource}
@@ -145,5 +145,5 @@ module _ (image : List ℕ) (acc : Accepted image) (name finder : List ℕ) (mad
   pub create-kept : OnlyNamed (create name finder made changed) image left
   unfolding times
   create-kept =
-      only-named image acc (create name finder made changed) [] image left (listing newBlocks) (f .files + 1) (nextNumber f + 1) (freeCount f) step nothing
+      only-named image acc (create name finder made changed) [] image left (listing newBlocks) (f .files + 1) (nextNumber f + 1) (freeCount f) (omega arith) step nothing
       (λ b k. absurd (omega arith))

@@ -6,14 +6,14 @@ use mathlib.Core.List.{List, [], _∷_, _++_, map}
 use native.Mathlib.Omega.{arith}
 use lib.ListN.{length}
 use Rattle.model.specs.Lists.{any, times}
-use Rattle.facts.specs.Facts.{factsOf, N, A, S, nextNumber, freeCount}
+use Rattle.model.specs.Facts.{factsOf, N, A, S, nextNumber, freeCount}
 use Rattle.model.specs.Map.{mapEntry}
 use Rattle.model.specs.Directory.{directory, forkOf, forkBlocks, named}
 use Rattle.model.specs.Check.{Accepted}
 use Rattle.model.specs.Calls.{Call, entryNamed, onNamed, withFork, shortened, change}
 use Rattle.model.specs.Calls.Call.{cut}
 use Rattle.history.specs.History.{Held, History, heldIn, cuts, changedFork, onCalled, moves, namedBlocks, blocksNamed, OnlyNamed, Agrees}
-use Rattle.facts.specs.declared.VolumeFacts.{VolumeFacts}
+use Rattle.model.specs.declared.VolumeFacts.{VolumeFacts}
 use Rattle.model.specs.declared.ForkFacts.{ForkFacts}
 use Rattle.model.specs.declared.Fork.{Fork}
 use Rattle.model.proofs.Times.{times-append}
@@ -104,5 +104,5 @@ module _ (image : List ℕ) (acc : Accepted image) (name : List ℕ) (fork : For
   unfolding namedBlocks
   cut-kept =
       only-named image acc (cut name fork n changed) (forkBlocks (mapEntry image) (A f) g) base left (map (onNamed name (withFork fork (A f) n kept changed)) (directory image)) (f .files) (nextNumber f)
-      free step frame
+      free (omega arith) step frame
       (λ b k. omega (arith, times-append b (blocksNamed image name fork) (blocksNamed left name fork), ap (times b) before-blocks))

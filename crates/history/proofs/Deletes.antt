@@ -6,14 +6,14 @@ use mathlib.Core.List.{List, [], _∷_, _++_, map, map-append}
 use native.Mathlib.Omega.{arith}
 use lib.ListN.{length}
 use Rattle.model.specs.Lists.{any, keep, times, Reordered}
-use Rattle.facts.specs.Facts.{factsOf, N, A, S, nextNumber, freeCount, withCounts}
+use Rattle.model.specs.Facts.{factsOf, N, A, S, nextNumber, freeCount, withCounts}
 use Rattle.model.specs.Map.{mapEntry, putFree}
 use Rattle.model.specs.Directory.{directory, directoryBlocks, forkOf, forksIn, forkBlocks, named}
 use Rattle.model.specs.Check.{Accepted}
 use Rattle.model.specs.Calls.{Call, entryNamed, removed, withDirectory, withFiles, withFree, deleted, change, forkBytes}
 use Rattle.model.specs.Calls.Call.{delete}
 use Rattle.history.specs.History.{File, History, heldIn, fileIn, filesIn, factsNow, called, moves, namedBlocks, blocksNamed, OnlyNamed, Agrees}
-use Rattle.facts.specs.declared.VolumeFacts.{VolumeFacts}
+use Rattle.model.specs.declared.VolumeFacts.{VolumeFacts}
 use Rattle.model.specs.declared.ForkFacts.{ForkFacts}
 use Rattle.model.specs.declared.Fork.the-variants.{Data, Resource}
 use Rattle.laws.proofs.Reorder.{Alone, after-delete}
@@ -142,5 +142,5 @@ module _ (image : List ℕ) (acc : Accepted image) (name : List ℕ) (m : MayCha
   pub delete-kept : OnlyNamed (delete name) image left
   unfolding namedBlocks
   delete-kept =
-      only-named image acc (delete name) freed base left rest (f .files - 1) (nextNumber f) free step frame
+      only-named image acc (delete name) freed base left rest (f .files - 1) (nextNumber f) free (omega arith) step frame
       (λ b k. omega (arith, times-append b (namedBlocks (delete name) image) (namedBlocks (delete name) left), ap (times b) before-blocks))

@@ -8,13 +8,13 @@ use mathlib.Core.Logic.{inl, inr}
 use native.Mathlib.Omega.{arith}
 use lib.ListN.{length, take, drop}
 use Rattle.model.specs.Lists.{any, times, flat}
-use Rattle.numbers.specs.Bytes.{byte, u16, u32}
-use Rattle.facts.specs.Facts.{factsOf, dirStart, dirLength, N, A, S}
+use Rattle.model.specs.Bytes.{byte, u16, u32}
+use Rattle.model.specs.Facts.{factsOf, dirStart, dirLength, N, A, S}
 use Rattle.model.specs.Directory.{directory, nameIn, named}
 use Rattle.model.specs.Check.{Accepted}
 use Rattle.model.specs.Calls.{Call, withDirectory, withFiles, withNext, withFree}
-use Rattle.history.specs.History.{File, called, onCalled, fileIn, namedBlocks, inBlock, inEntry, inDirectory, inFiles, inNext, inFree, OnlyNamed}
-use Rattle.facts.specs.declared.VolumeFacts.{VolumeFacts}
+use Rattle.history.specs.History.{File, called, onCalled, fileIn, namedBlocks, inBlock, inEntry, following, directoryAt, inDirectory, inFiles, inNext, inFree, OnlyNamed}
+use Rattle.model.specs.declared.VolumeFacts.{VolumeFacts}
 use Rattle.model.proofs.Lists.{or-false}
 use Rattle.model.proofs.Check.{accepted-passes}
 use Rattle.laws.proofs.Content.{same-byte}
@@ -25,6 +25,11 @@ use Rattle.laws.proofs.DirectorySteps.{Readable, readable, Based, based-bytes, 
 
 pub readable-of : (image : List ℕ) → Accepted image → Readable image
 readable-of image acc = readable image (accepted-passes image acc)
+
+-- what holds of a directory block holds of each in the list of it alone
+alone : (P : ℕ → Type 0) (d : ℕ) → P d → (i : ℕ) → i < 1 → P (directoryAt (record { 0 = d } ∷ []) i)
+alone P d h zero l = h
+alone P d h (suc i) l = absurd (omega arith)
 
 module _ (image : List ℕ) (acc : Accepted image) where
   -- base has the image's facts and directory
@@ -58,17 +63,18 @@ module _ (image : List ℕ) (acc : Accepted image) where
   unfolding withFree
   alike-free n l = alike-sets (S (factsOf image)) l 1058 (u16 n) low (inl (omega arith))
 
-  -- only the named bytes differ, where the blocks bs are the named fork's before or after
-  pub only-named : (call : Call) (bs base left : List ℕ) (es : List (List ℕ)) (files number free : ℕ) → Stepped image base es files number free left
-      → Framed (S (factsOf image)) (A (factsOf image)) bs image base
+  -- only the named bytes differ, where the blocks bs are the named fork's before or after, and one directory block may
+  pub only-named : (call : Call) (bs base left : List ℕ) (es : List (List ℕ)) (files number free : ℕ) → 1 ≤ following call .directories
+      → Stepped image base es files number free left → Framed (S (factsOf image)) (A (factsOf image)) bs image base
       → ((b : ℕ) → 1 ≤ times b bs → 1 ≤ times b (namedBlocks call image ++ namedBlocks call left)) → OnlyNamed call image left
-  only-named call bs base left es files number free t r sub = record {
+  only-named call bs base left es files number free one t r sub = record {
     size = t .long;
-    d = t .d;
-    first = t .first;
-    last = t .last;
+    blocks = record { 0 = t .d } ∷ [];
+    few = one;
+    first = λ i l. alone (λ (d : ℕ). dirStart (factsOf image) ≤ d) (t .d) (t .first) i l;
+    last = λ i l. alone (λ (d : ℕ). d < dirStart (factsOf image) + dirLength (factsOf image)) (t .d) (t .last) i l;
     kept = λ h n.
-        t .kept h (λ w. n (inDirectory h w)) (λ w. n (inFiles h w)) (λ w. n (inNext h w)) (λ w. n (inFree h w))
+        t .kept h (λ w. n (inDirectory 0 h (omega arith) w)) (λ w. n (inFiles h w)) (λ w. n (inNext h w)) (λ w. n (inFree h w))
         ∙ r .halves h (λ b k w. n (inBlock b h (sub b k) w)) (λ b k x y. n (inEntry b h (sub b k) x y));
   }
 

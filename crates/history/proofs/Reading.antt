@@ -7,14 +7,14 @@ use mathlib.Core.List.{List, [], _∷_, _++_, map}
 use native.Mathlib.Omega.{arith}
 use lib.ListN.{length, getD, length-map}
 use Rattle.model.specs.Lists.{Reordered, none, next, swap, then}
-use Rattle.numbers.specs.Bytes.{byte, be32}
-use Rattle.facts.specs.Facts.{factsOf, N, A, S, nextNumber, freeCount, withCounts}
+use Rattle.model.specs.Bytes.{byte, be32}
+use Rattle.model.specs.Facts.{factsOf, N, A, S, nextNumber, freeCount, withCounts}
 use Rattle.model.specs.Map.{mapEntry}
 use Rattle.model.specs.Directory.{directory, numberIn, nameIn, finderIn, forkOf, forksIn, blockCount}
 use Rattle.model.specs.Check.{fires6, fires7, SoundFacts, Accepted}
 use Rattle.model.specs.Calls.{forkBytes}
 use Rattle.history.specs.History.{Held, File, History, blocksOf, freeOf, factsNow, heldIn, fileIn, filesIn, reading, Agrees}
-use Rattle.facts.specs.declared.VolumeFacts.{VolumeFacts}
+use Rattle.model.specs.declared.VolumeFacts.{VolumeFacts}
 use Rattle.model.specs.declared.ForkFacts.{ForkFacts}
 use Rattle.model.specs.declared.Fork.{Fork}
 use Rattle.model.specs.declared.Fork.the-variants.{Data, Resource}

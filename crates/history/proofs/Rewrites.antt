@@ -7,14 +7,14 @@ use native.Mathlib.Omega.{arith}
 use lib.ListN.{length, getD}
 use borrow.Author.Tests.{not-false}
 use Rattle.model.specs.Lists.{every, any, first, firstOr0, Reordered}
-use Rattle.numbers.specs.Bytes.{byte, be32}
-use Rattle.facts.specs.Facts.{factsOf, N, A, S, nextNumber, freeCount, withCounts}
+use Rattle.model.specs.Bytes.{byte, be32}
+use Rattle.model.specs.Facts.{factsOf, N, A, S, nextNumber, freeCount, withCounts}
 use Rattle.model.specs.Map.{mapEntry}
 use Rattle.model.specs.Directory.{directory, numberIn, nameIn, finderIn, forkOf, forksIn, blockCount, forkBlocks, named}
 use Rattle.model.specs.Check.{goodEntry, fires6, Accepted}
 use Rattle.model.specs.Calls.{entryNamed, forkBytes, onNamed, withFork}
 use Rattle.history.specs.History.{Held, File, History, heldIn, fileIn, filesIn, factsNow, changedFork, onCalled, called, blocksNamed, Agrees}
-use Rattle.facts.specs.declared.VolumeFacts.{VolumeFacts}
+use Rattle.model.specs.declared.VolumeFacts.{VolumeFacts}
 use Rattle.model.specs.declared.ForkFacts.{ForkFacts}
 use Rattle.model.specs.declared.Fork.{Fork}
 use Rattle.model.specs.declared.Fork.the-variants.{Data, Resource}

@@ -7,8 +7,8 @@ use native.Mathlib.Omega.{arith}
 use native.Mathlib.Decide.{ℕ-discrete}
 use lib.ListN.{length}
 use lib.Dec.{eqb}
-use Rattle.numbers.specs.Bytes.{Bytes}
-use Rattle.facts.specs.Facts.{factsOf, dirStart, dirLength}
+use Rattle.model.specs.Bytes.{Bytes}
+use Rattle.model.specs.Facts.{factsOf, dirStart, dirLength}
 use Rattle.model.specs.Check.{Accepted}
 use Rattle.model.specs.Calls.{Call, refusal, change, after, answer, Fits, Does}
 use Rattle.history.specs.History.{History, moves, step, tells, toldBy, asked, Agrees, reading, Event, Run, isFull, OnlyNamed, changes, RoomRule, Step, Holds, EveryRun}
@@ -34,9 +34,16 @@ pub record Done (call : Call) (image : List ℕ) (h : History) : Type 0 where
   pub kept : OnlyNamed call image (change call image)
 
 -- an image that stays has only named bytes that differ
-pub stays : (call : Call) (image : List ℕ) → Accepted image → OnlyNamed call image image
-stays call image acc =
-    record { size = refl; d = dirStart (factsOf image); first = omega arith; last = omega (arith, acc .facts .dirSome); kept = λ h n. refl }
+pub stays : (call : Call) (image : List ℕ) → OnlyNamed call image image
+stays call image =
+    record {
+      size = refl;
+      blocks = [];
+      few = omega arith;
+      first = λ i l. absurd (omega arith);
+      last = λ i l. absurd (omega arith);
+      kept = λ h n. refl;
+    }
 
 -- the changing calls
 create-done : (name finder : List ℕ) (made changed : ℕ) (image : List ℕ) (h : History) → Accepted image → Agrees image h → Bytes image
@@ -87,18 +94,18 @@ delete-done name image h acc a b w z =
 -- each call that is not refused
 done-call : (call : Call) (image : List ℕ) (h : History) → Accepted image → Agrees image h → Bytes image → Fits call → refusal call image ≡ 0 → Done call image h
 unfolding change moves
-done-call check image h acc a b w z = record { bytes = b; accepted = acc; agrees = a; kept = stays check image acc }
-done-call (entry place) image h acc a b w z = record { bytes = b; accepted = acc; agrees = a; kept = stays (entry place) image acc }
-done-call (find name) image h acc a b w z = record { bytes = b; accepted = acc; agrees = a; kept = stays (find name) image acc }
-done-call (block name fork place) image h acc a b w z = record { bytes = b; accepted = acc; agrees = a; kept = stays (block name fork place) image acc }
-done-call (read name fork offset buffer) image h acc a b w z = record { bytes = b; accepted = acc; agrees = a; kept = stays (read name fork offset buffer) image acc }
+done-call check image h acc a b w z = record { bytes = b; accepted = acc; agrees = a; kept = stays check image }
+done-call (entry place) image h acc a b w z = record { bytes = b; accepted = acc; agrees = a; kept = stays (entry place) image }
+done-call (find name) image h acc a b w z = record { bytes = b; accepted = acc; agrees = a; kept = stays (find name) image }
+done-call (block name fork place) image h acc a b w z = record { bytes = b; accepted = acc; agrees = a; kept = stays (block name fork place) image }
+done-call (read name fork offset buffer) image h acc a b w z = record { bytes = b; accepted = acc; agrees = a; kept = stays (read name fork offset buffer) image }
 done-call (create name finder made changed) image h acc a b w z = create-done name finder made changed image h acc a b w z
 done-call (write name fork offset bytes changed) image h acc a b w z = write-done name fork offset bytes changed image h acc a b w z
 done-call (cut name fork size changed) image h acc a b w z = cut-done name fork size changed image h acc a b w z
 done-call (delete name) image h acc a b w z = delete-done name image h acc a b w z
 
 -- one event
-event : (e : Event) (image : List ℕ) (h : History) → Accepted image → Agrees image h → Does (e .call) image (e .given) (e .left) → Step e image h
+pub event : (e : Event) (image : List ℕ) (h : History) → Accepted image → Agrees image h → Does (e .call) image (e .given) (e .left) → Step e image h
 unfolding isFull
 event e image h acc a m =
     let call = e .call in
@@ -125,7 +132,7 @@ event e image h acc a m =
             accepted = rw l acc;
             agrees = rw (l, n, step-refused image h acc a w call z) a;
             told = ap toldBy (m .answers) ∙ same-told image h acc a w call ∙ sym (ap (λ (k : ℕ). tells h (eqb k 18) (asked image call) call) n);
-            kept = rw l (stays call image acc);
+            kept = rw l (stays call image);
             still = λ t. l;
             room = subst (λ r. RoomRule h call (r .number)) (sym (m .answers)) (room-rule image h acc a w call);
           }

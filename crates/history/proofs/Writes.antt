@@ -6,15 +6,15 @@ use mathlib.Core.List.{List, [], _∷_, _++_, map}
 use native.Mathlib.Omega.{arith}
 use lib.ListN.{length}
 use Rattle.model.specs.Lists.{any, times}
-use Rattle.facts.specs.Facts.{factsOf, dirLength, N, A, S, nextNumber, freeCount}
+use Rattle.model.specs.Facts.{factsOf, dirLength, N, A, S, nextNumber, freeCount}
 use Rattle.model.specs.Map.{mapEntry}
 use Rattle.model.specs.Directory.{directory, directoryBlocks, forkOf, blockCount, forkBlocks, named}
 use Rattle.model.specs.Check.{Accepted}
 use Rattle.model.specs.Calls.{Call, grown, needed, fewest, entryNamed, forkBytes, onNamed, rewritten, withFork, withDirectory, withFree, written, change}
 use Rattle.model.specs.Calls.Call.{write}
 use Rattle.history.specs.History.{Held, History, heldIn, writes, changedFork, onCalled, moves, namedBlocks, blocksNamed, OnlyNamed, Agrees}
-use Rattle.numbers.specs.Bytes.{overwritten}
-use Rattle.facts.specs.declared.VolumeFacts.{VolumeFacts}
+use Rattle.model.specs.Bytes.{overwritten}
+use Rattle.model.specs.declared.VolumeFacts.{VolumeFacts}
 use Rattle.model.specs.declared.ForkFacts.{ForkFacts}
 use Rattle.model.specs.declared.Fork.{Fork}
 use Rattle.model.proofs.Times.{times-append}
@@ -137,5 +137,5 @@ module _ (image : List ℕ) (acc : Accepted image) (name : List ℕ) (fork : For
   unfolding namedBlocks
   write-kept =
       only-named image acc (write name fork o xs changed) all base left (map (onNamed name (withFork fork (A f) (sizeAfter g o xs) all changed)) (directory image)) (f .files) (nextNumber f)
-      (freeCount f - newCount (mapEntry image) (A f) g o xs) step frame
+      (freeCount f - newCount (mapEntry image) (A f) g o xs) (omega arith) step frame
       (λ b k. omega (arith, times-append b (blocksNamed image name fork) (blocksNamed left name fork), ap (times b) after-blocks))

@@ -1,5 +1,5 @@
--- The history, which knows no image, map or directory block; how an image reads as facts and files; what must hold after each
--- event of a run; and the claim on every run.
+-- The history, which knows no image, map or directory block; how it follows each call; how an image reads as facts and files;
+-- what must hold after each event of a run; and the claim on every run.
 use Prim.Native.Nat.{ℕ, zero, suc, _+_, _-_, _*_, _/_, _%_, _≤_, _<_, max}
 use mathlib.Core.Path.{_≡_}
 use mathlib.Core.Bool.{Bool, true, false, _&&_, not, cond}
@@ -8,14 +8,15 @@ use mathlib.Core.Logic.{_↔_}
 use lib.ListN.{length, getD, take, drop}
 use lib.Dec.{eqb, ltb}
 use Rattle.model.specs.Lists.{any, keep, first, Reordered, times}
-use Rattle.numbers.specs.Bytes.{byte, be32, half, Within, overwritten, Bytes}
-use Rattle.facts.specs.Facts.{factsOf, dirStart, dirLength, N, A, S, nextNumber, freeCount, isLocked, blockByte, withCounts, noFacts}
+use Rattle.model.specs.Bytes.{byte, be32, half, Within, overwritten, Bytes}
+use Rattle.model.specs.Facts.{factsOf, dirStart, dirLength, N, A, S, nextNumber, freeCount, isLocked, blockByte, withCounts, noFacts}
 use Rattle.model.specs.Map.{mapEntry}
 use Rattle.model.specs.Directory.{directory, numberIn, nameIn, finderIn, forkOf, wide, noEntry, flagsLock, blockCount, forkBlocks, sameName}
 use Rattle.model.specs.Check.{Accepted}
 use Rattle.model.specs.Calls.{Call, Known, fewest, badName, refuses, nameOf, forkGiven, entryNamed, forkBytes, readCount, copied, Answer, lent, Does}
 use Rattle.model.specs.Calls.Call.{check, entry, find, block, read, create, write, cut, delete}
-use Rattle.facts.specs.declared.VolumeFacts.{VolumeFacts}
+use Rattle.model.specs.declared.LogicalBlock.{LogicalBlock}
+use Rattle.model.specs.declared.VolumeFacts.{VolumeFacts}
 use Rattle.model.specs.declared.DirectoryEntry.{DirectoryEntry}
 use Rattle.model.specs.declared.ForkFacts.{ForkFacts}
 use Rattle.model.specs.declared.Fork.{Fork}
@@ -146,31 +147,6 @@ changedFork fork f date x = record {
 unfoldable pub onCalled : List ℕ → (File → File) → File → File
 onCalled name f x = cond (called name x) (f x) x
 
--- Check, entry, find, block and read change nothing. Delete drops the file.
-unfoldable pub moves : History → Call → History
-moves h check = h
-moves h (entry place) = h
-moves h (find name) = h
-moves h (block name fork place) = h
-moves h (read name fork offset buffer) = h
-moves h (create name finder created changed) = record {
-  facts = withCounts (h .facts) (h .facts .files) (nextNumber (h .facts) + 1) (freeCount (h .facts));
-  files = h .files ++ (newFile (nextNumber (h .facts)) name finder created changed ∷ []);
-}
-moves h (write name fork offset bytes changed) = record {
-  facts = h .facts;
-  files = map (onCalled name (changedFork fork (writes (A (h .facts)) offset bytes) changed)) (h .files);
-}
-moves h (cut name fork size changed) = record {
-  facts = h .facts;
-  files = map (onCalled name (changedFork fork (cuts (A (h .facts)) size) changed)) (h .files);
-}
-moves h (delete name) = record { facts = h .facts; files = keep (λ x. not (called name x)) (h .files) }
-
--- Refused calls change nothing.
-unfoldable pub step : History → Bool → Call → History
-step h full call = cond (eqb (declines h full call) 0) (moves h call) h
-
 -- ---- What it tells
 
 -- equal in an answer: the number given back, what is told of facts and files, and read's count and bytes
@@ -233,27 +209,135 @@ toldOnly number buffer = record { number = number; facts = noFacts; entry = noEn
 unfoldable pub fileNumbered : ℕ → History → File
 fileNumbered n h = first (λ x. eqb (x .number) n) noFile (h .files)
 
--- what it tells of a call that is not refused; n is the number of the file that the image's reading has at the place asked
+-- ---- What 17 asks
+
+-- the new blocks that a write needs of a held fork: the rise of its count
+unfoldable pub rise : ℕ → ℕ → List ℕ → Held → ℕ
+rise a o xs g = writes a o xs g .count - g .count
+
+-- a write passes the checks before 17, and needs more new blocks than are free
+pub record NoRoom (h : History) (name : List ℕ) (fork : Fork) (offset : ℕ) (bytes : List ℕ) : Type 0 where
+  pub unlocked : isLocked (h .facts) ≡ false
+  pub titled : badName name ≡ false
+  pub there : any (called name) (h .files) ≡ true
+  pub writable : flagsLock (fileCalled name h .flags) ≡ false
+  pub within : offset ≤ length (heldOf fork (fileCalled name h) .bytes)
+  pub exceeds : freeOf h < rise (A (h .facts)) offset bytes (heldOf fork (fileCalled name h))
+
+-- ---- How each call is followed
+
+-- one clause for each call in `following`: what the history does and tells where the call is not refused, and what the claim
+-- on every run asks of the image
+pub record Following : Type 1 where
+  -- its step
+  pub moves : History → History
+  -- what it tells; the number is that of the file that the image's reading has at the place asked
+  pub says : History → ℕ → Told
+  -- that number
+  pub asked : List ℕ → ℕ
+  -- whether the call may change the image, the blocks that an image gives to the fork that it names (for a delete, to both
+  -- forks), and how many directory blocks may differ
+  pub changes : Bool
+  pub blocks : List ℕ → List ℕ
+  pub directories : ℕ
+  -- when its number is 17
+  pub room : History → ℕ → Type 0
+
+-- the blocks that an image gives to the named fork
+unfoldable pub blocksNamed : List ℕ → List ℕ → Fork → List ℕ
+blocksNamed image name fork = forkBlocks (mapEntry image) (A (factsOf image)) (forkOf fork (entryNamed name image))
+
+-- no call but a write gets 17
+abbrev neverFull : History → ℕ → Type 0
+neverFull h number = number ≡ 17 → ⊥
+
+-- Check, entry, find, block and read change nothing. They differ in what is told, and entry in that a place is asked.
+abbrev reads : (History → ℕ → Told) → (List ℕ → ℕ) → Following
+reads says asked = record {
+  moves = λ h. h;
+  says = says;
+  asked = asked;
+  changes = false;
+  blocks = λ image. [];
+  directories = 0;
+  room = neverFull;
+}
+
+-- the calls that change the image tell their number alone, and one directory block may differ
+abbrev alters : (History → History) → (List ℕ → List ℕ) → (History → ℕ → Type 0) → Following
+alters moves blocks room = record {
+  moves = moves;
+  says = λ h n. toldOnly 0 [];
+  asked = λ image. 0;
+  changes = true;
+  blocks = blocks;
+  directories = 1;
+  room = room;
+}
+
+-- no file is asked by its place
+abbrev noPlace : List ℕ → ℕ
+noPlace image = 0
+
+-- what is told of facts, and of a file
+abbrev toldFacts : VolumeFacts → Told
+toldFacts f = record { number = 0; facts = f; entry = noEntry; count = 0; buffer = [] }
+
+abbrev toldFile : History → File → Told
+toldFile h x = record { number = 0; facts = noFacts; entry = entryOf (A (h .facts)) x; count = 0; buffer = [] }
+
+-- read's count and bytes, which the history takes from the fork's bytes by the read rule
+abbrev toldBytes : List ℕ → ℕ → List ℕ → Told
+toldBytes bytes offset buffer = record {
+  number = 0;
+  facts = noFacts;
+  entry = noEntry;
+  count = readCount (length buffer) (length bytes) offset;
+  buffer = copied bytes offset buffer;
+}
+
+abbrev pub following : Call → Following
+following check = reads (λ h n. toldFacts (factsNow h)) noPlace
+-- Entry tells of the history's file that the image's reading has at the place asked.
+following (entry place) = reads (λ h n. toldFile h (fileNumbered n h)) (λ image. numberIn (getD (directory image) place []))
+following (find name) = reads (λ h n. toldFile h (fileCalled name h)) noPlace
+-- Block numbers are demand 2's.
+following (block name fork place) = reads (λ h n. toldOnly 0 []) noPlace
+following (read name fork offset buffer) = reads (λ h n. toldBytes (heldOf fork (fileCalled name h) .bytes) offset buffer) noPlace
+-- Create adds a file; the next number goes up by one.
+following (create name finder created changed) = alters
+    (λ h. record {
+      facts = withCounts (h .facts) (h .facts .files) (nextNumber (h .facts) + 1) (freeCount (h .facts));
+      files = h .files ++ (newFile (nextNumber (h .facts)) name finder created changed ∷ []);
+    })
+    (λ image. [])
+    neverFull
+-- A write gets 17 exactly when it needs more new blocks than are free.
+following (write name fork offset bytes changed) = alters
+    (λ h. record { facts = h .facts; files = map (onCalled name (changedFork fork (writes (A (h .facts)) offset bytes) changed)) (h .files) })
+    (λ image. blocksNamed image name fork)
+    (λ h number. (number ≡ 17) ↔ NoRoom h name fork offset bytes)
+following (cut name fork size changed) = alters
+    (λ h. record { facts = h .facts; files = map (onCalled name (changedFork fork (cuts (A (h .facts)) size) changed)) (h .files) })
+    (λ image. blocksNamed image name fork)
+    neverFull
+-- Delete drops the file.
+following (delete name) = alters
+    (λ h. record { facts = h .facts; files = keep (λ x. not (called name x)) (h .files) })
+    (λ image. blocksNamed image name Data ++ blocksNamed image name Resource)
+    neverFull
+
+-- ---- The history after a call, and what it tells of it
+
+unfoldable pub moves : History → Call → History
+moves h call = following call .moves h
+
+-- Refused calls change nothing.
+unfoldable pub step : History → Bool → Call → History
+step h full call = cond (eqb (declines h full call) 0) (moves h call) h
+
 unfoldable pub says : History → ℕ → Call → Told
-says h n check = record { number = 0; facts = factsNow h; entry = noEntry; count = 0; buffer = [] }
-says h n (entry place) =
-    record { number = 0; facts = noFacts; entry = entryOf (A (h .facts)) (fileNumbered n h); count = 0; buffer = [] }
-says h n (find name) =
-    record { number = 0; facts = noFacts; entry = entryOf (A (h .facts)) (fileCalled name h); count = 0; buffer = [] }
-says h n (block name fork place) = toldOnly 0 []
-says h n (read name fork offset buffer) =
-    let bytes = heldOf fork (fileCalled name h) .bytes in
-    record {
-      number = 0;
-      facts = noFacts;
-      entry = noEntry;
-      count = readCount (length buffer) (length bytes) offset;
-      buffer = copied bytes offset buffer;
-    }
-says h n (create name finder created changed) = toldOnly 0 []
-says h n (write name fork offset bytes changed) = toldOnly 0 []
-says h n (cut name fork size changed) = toldOnly 0 []
-says h n (delete name) = toldOnly 0 []
+says h n call = following call .says h n
 
 unfoldable pub tells : History → Bool → ℕ → Call → Told
 tells h full n call = cond (eqb (declines h full call) 0) (says h n call) (toldOnly (declines h full call) (lent call))
@@ -307,90 +391,46 @@ isFull e = eqb (e .given .number) 18
 
 -- the number of the file that the image's reading has at the place asked
 unfoldable pub asked : List ℕ → Call → ℕ
-asked image (entry place) = numberIn (getD (directory image) place [])
-asked image check = 0
-asked image (find name) = 0
-asked image (block name fork place) = 0
-asked image (read name fork offset buffer) = 0
-asked image (create name finder created changed) = 0
-asked image (write name fork offset bytes changed) = 0
-asked image (cut name fork size changed) = 0
-asked image (delete name) = 0
+asked image call = following call .asked image
 
 -- ---- Which bytes may differ
 
--- the blocks that an image gives to the named fork (for a delete, to both forks)
-unfoldable pub blocksNamed : List ℕ → List ℕ → Fork → List ℕ
-blocksNamed image name fork = forkBlocks (mapEntry image) (A (factsOf image)) (forkOf fork (entryNamed name image))
+-- calls that may change the image
+unfoldable pub changes : Call → Bool
+changes call = following call .changes
 
 unfoldable pub namedBlocks : Call → List ℕ → List ℕ
-namedBlocks check image = []
-namedBlocks (entry place) image = []
-namedBlocks (find name) image = []
-namedBlocks (block name fork place) image = []
-namedBlocks (read name fork offset buffer) image = []
-namedBlocks (create name finder created changed) image = []
-namedBlocks (write name fork offset bytes changed) image = blocksNamed image name fork
-namedBlocks (cut name fork size changed) image = blocksNamed image name fork
-namedBlocks (delete name) image = blocksNamed image name Data ++ blocksNamed image name Resource
+namedBlocks call image = following call .blocks image
 
--- The half-bytes that a change may touch, where bs are the blocks that the named fork has before or after and d is a directory
--- block: the blocks bs and their map entries (each three half-bytes), the directory block, the number of files, the next file
+-- the directory block at a place of a list
+abbrev pub directoryAt : List LogicalBlock → ℕ → ℕ
+directoryAt ds i = getD ds i (record { 0 = 0 }) .0
+
+-- The half-bytes that a change may touch, where bs are the blocks that the named fork has before or after and ds are directory
+-- blocks: the blocks bs and their map entries (each three half-bytes), the directory blocks, the number of files, the next file
 -- number, the free count. A neighbour's half-byte and dead space are not among them.
-pub data Named (f : VolumeFacts) (bs : List ℕ) (d : ℕ) : ℕ → Type 0 where
-  inBlock : (b h : ℕ) → 1 ≤ times b bs → Within (blockByte (S f) (A f) b) (A f) h → Named f bs d h
-  inEntry : (b h : ℕ) → 1 ≤ times b bs → 2176 + 3 * (b - 2) ≤ h → h < 2179 + 3 * (b - 2) → Named f bs d h
-  inDirectory : (h : ℕ) → Within (512 * d) 512 h → Named f bs d h
-  inFiles : (h : ℕ) → Within 1036 2 h → Named f bs d h
-  inNext : (h : ℕ) → Within 1054 4 h → Named f bs d h
-  inFree : (h : ℕ) → Within 1058 2 h → Named f bs d h
+pub data Named (f : VolumeFacts) (bs : List ℕ) (ds : List LogicalBlock) : ℕ → Type 0 where
+  inBlock : (b h : ℕ) → 1 ≤ times b bs → Within (blockByte (S f) (A f) b) (A f) h → Named f bs ds h
+  inEntry : (b h : ℕ) → 1 ≤ times b bs → 2176 + 3 * (b - 2) ≤ h → h < 2179 + 3 * (b - 2) → Named f bs ds h
+  inDirectory : (i h : ℕ) → i < length ds → Within (512 * directoryAt ds i) 512 h → Named f bs ds h
+  inFiles : (h : ℕ) → Within 1036 2 h → Named f bs ds h
+  inNext : (h : ℕ) → Within 1054 4 h → Named f bs ds h
+  inFree : (h : ℕ) → Within 1058 2 h → Named f bs ds h
 
 pub record OnlyNamed (call : Call) (image left : List ℕ) : Type 0 where
   pub size : length left ≡ length image
-  -- one directory block
-  pub d : ℕ
-  pub first : dirStart (factsOf image) ≤ d
-  pub last : d < dirStart (factsOf image) + dirLength (factsOf image)
-  pub kept : (h : ℕ) → (Named (factsOf image) (namedBlocks call image ++ namedBlocks call left) d h → ⊥) → half left h ≡ half image h
-
--- calls that may change the image
-unfoldable pub changes : Call → Bool
-changes check = false
-changes (entry place) = false
-changes (find name) = false
-changes (block name fork place) = false
-changes (read name fork offset buffer) = false
-changes (create name finder created changed) = true
-changes (write name fork offset bytes changed) = true
-changes (cut name fork size changed) = true
-changes (delete name) = true
+  -- directory blocks, as many as may differ for this call
+  pub blocks : List LogicalBlock
+  pub few : length blocks ≤ following call .directories
+  pub first : (i : ℕ) → i < length blocks → dirStart (factsOf image) ≤ directoryAt blocks i
+  pub last : (i : ℕ) → i < length blocks → directoryAt blocks i < dirStart (factsOf image) + dirLength (factsOf image)
+  pub kept : (h : ℕ) → (Named (factsOf image) (namedBlocks call image ++ namedBlocks call left) blocks h → ⊥) → half left h ≡ half image h
 
 -- ---- Refusal 17
 
--- the new blocks that a write needs of a held fork: the rise of its count
-unfoldable pub rise : ℕ → ℕ → List ℕ → Held → ℕ
-rise a o xs g = writes a o xs g .count - g .count
-
--- a write passes the checks before 17, and needs more new blocks than are free
-pub record NoRoom (h : History) (name : List ℕ) (fork : Fork) (offset : ℕ) (bytes : List ℕ) : Type 0 where
-  pub unlocked : isLocked (h .facts) ≡ false
-  pub titled : badName name ≡ false
-  pub there : any (called name) (h .files) ≡ true
-  pub writable : flagsLock (fileCalled name h .flags) ≡ false
-  pub within : offset ≤ length (heldOf fork (fileCalled name h) .bytes)
-  pub exceeds : freeOf h < rise (A (h .facts)) offset bytes (heldOf fork (fileCalled name h))
-
--- A write gets 17 exactly then; no other call gets 17.
+-- A write gets 17 exactly when it needs more new blocks than are free; no other call gets 17.
 unfoldable pub RoomRule : History → Call → ℕ → Type 0
-RoomRule h (write name fork offset bytes changed) number = (number ≡ 17) ↔ NoRoom h name fork offset bytes
-RoomRule h check number = number ≡ 17 → ⊥
-RoomRule h (entry place) number = number ≡ 17 → ⊥
-RoomRule h (find name) number = number ≡ 17 → ⊥
-RoomRule h (block name fork place) number = number ≡ 17 → ⊥
-RoomRule h (read name fork offset buffer) number = number ≡ 17 → ⊥
-RoomRule h (create name finder created changed) number = number ≡ 17 → ⊥
-RoomRule h (cut name fork size changed) number = number ≡ 17 → ⊥
-RoomRule h (delete name) number = number ≡ 17 → ⊥
+RoomRule h call number = following call .room h number
 
 -- ---- The claim
 

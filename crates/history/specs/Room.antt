@@ -3,7 +3,7 @@ use Prim.Native.Nat.{ℕ, _+_, _<_}
 use mathlib.Core.Path.{_≡_}
 use mathlib.Core.List.{List}
 use lib.ListN.{length}
-use Rattle.facts.specs.Facts.{factsOf, N, A, freeCount}
+use Rattle.model.specs.Facts.{factsOf, N, A, freeCount}
 use Rattle.model.specs.Directory.{forkOf, blockCount}
 use Rattle.model.specs.Check.{Accepted}
 use Rattle.model.specs.Calls.{Answer, Does, needed, grown, entryNamed}

@@ -6,7 +6,7 @@ use Prim.Native.Nat.{ℕ, suc, _+_, _*_, _≤_, _<_}
 use native.Mathlib.Omega.{arith}
 use lib.ListN.{length, take, drop, set}
 use lib.Seq.{sets, paste, drop-set-lt, take-set-le}
-use Rattle.numbers.specs.Bytes.{byte, part}
+use Rattle.model.specs.Bytes.{byte, part}
 use Rattle.model.specs.Map.{entryByte, mapEntry}
 use Rattle.model.specs.Calls.{bytesOf}
 use Rattle.laws.proofs.Sound.{held, Each, Sound, changed}

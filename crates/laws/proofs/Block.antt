@@ -11,7 +11,7 @@ use lib.Seq.{length-take-le, drop-drop, take-at, drop-at, getD-take, drop-append
 use lib.Dec.{eqb, leb, ltb}
 use borrow.Author.Tests.{eqb-true, eq-eqb, ne-eqb, leb-true, le-leb, lt-leb}
 use Rattle.model.specs.Lists.{every, any, keep, flat}
-use Rattle.numbers.specs.Bytes.{byte, zeros, part}
+use Rattle.model.specs.Bytes.{byte, zeros, part}
 use Rattle.model.specs.Directory.{padded, entrySize, inUse, endsAt, nextPlace, readAt, entries, readEnd, numberIn, nameIn, named}
 use Rattle.model.specs.Check.{goodEntry}
 use Rattle.model.specs.Calls.{hasRoom, filled, removedIn, onNamed, rewrittenIn}

@@ -5,7 +5,7 @@ use mathlib.Core.Bool.{Bool, true, false, cond}
 use mathlib.Core.List.{List}
 use native.Mathlib.Omega.{arith}
 use borrow.Author.Tests.{eq-eqb, ne-eqb}
-use Rattle.numbers.specs.Bytes.{Bytes, firstOf}
+use Rattle.model.specs.Bytes.{Bytes, firstOf}
 use Rattle.model.specs.Check.{verdict}
 use Rattle.model.specs.Calls.{Call, nameOf, forkGiven, refuses, knownIn, refusal, change, only, reply, lent, answer, after, Fits, Does}
 

@@ -9,10 +9,10 @@ use native.Mathlib.Nat.{zero-mul, sub-zero, zero-sub, suc-sub-suc, mul-le-mul-ri
 use lib.ListN.{length, getD, set, take, drop, length-append, length-drop}
 use lib.Seq.{sets, paste, getD-set-other, take-nil, take-at, drop-at, drop-drop, take-add, take-length, length-paste-head, take-take, take-append-le, take-append-add, length-take-le, length-paste, drop-paste, take-all, getD-take, getD-drop}
 use Rattle.model.specs.Lists.{times}
-use Rattle.numbers.specs.Bytes.{byte, part, half}
-use Rattle.facts.specs.Facts.{blockByte}
+use Rattle.model.specs.Bytes.{byte, part, half}
+use Rattle.model.specs.Facts.{blockByte}
 use Rattle.model.specs.Calls.{bytesOf, putBlocks, putContent, fewest}
-use Rattle.numbers.specs.Bytes.{overwritten}
+use Rattle.model.specs.Bytes.{overwritten}
 use Rattle.model.proofs.Times.{times-head, times-tail}
 use Rattle.laws.proofs.Entries.{Clear}
 use Rattle.laws.proofs.Stores.{half-same}

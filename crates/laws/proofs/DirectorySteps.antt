@@ -8,14 +8,14 @@ use native.Mathlib.Omega.{arith}
 use lib.ListN.{length, take, drop}
 use borrow.Author.Tests.{not-false}
 use Rattle.model.specs.Lists.{any, distinct, keep}
-use Rattle.numbers.specs.Bytes.{byte, half}
-use Rattle.facts.specs.Facts.{factsOf, dirStart, dirLength, N, A, S, nextNumber, freeCount, withCounts}
+use Rattle.model.specs.Bytes.{byte, half}
+use Rattle.model.specs.Facts.{factsOf, dirStart, dirLength, N, A, S, nextNumber, freeCount, withCounts}
 use Rattle.model.specs.Map.{mapEntry, freeBlocks, putChain, putFree}
 use Rattle.model.specs.Directory.{padded, directoryBlocks, listing, directory, numberIn, nameIn, inUse, forkOf, forkBlocks, named}
 use Rattle.model.specs.Check.{goodEntry, sameNames, fires6, fires7}
 use Rattle.model.specs.Calls.{hasRoom, placed, removed, onNamed, rewritten, withDirectory, withFiles, withNext, withFree, withFork, fewest, grown, needed, putContent, newEntry, created, written, shortened, deleted}
-use Rattle.numbers.specs.Bytes.{Within}
-use Rattle.facts.specs.declared.VolumeFacts.{VolumeFacts}
+use Rattle.model.specs.Bytes.{Within}
+use Rattle.model.specs.declared.VolumeFacts.{VolumeFacts}
 use Rattle.model.specs.declared.ForkFacts.{ForkFacts}
 use Rattle.model.specs.declared.Fork.{Fork}
 use Rattle.model.specs.declared.Fork.the-variants.{Data, Resource}

@@ -7,7 +7,7 @@ use native.Mathlib.Decide.{ℕ-discrete, decLt}
 use native.Mathlib.Omega.{arith}
 use lib.ListN.{length, getD, set, take, drop, length-set}
 use lib.Seq.{getD-set-same, getD-set-other, set-out, take-set-le, drop-set-lt}
-use Rattle.numbers.specs.Bytes.{byte, half, Bytes}
+use Rattle.model.specs.Bytes.{byte, half, Bytes}
 use Rattle.model.specs.Map.{entryByte, joined, firstByte, secondByte, mapEntry, setEntry}
 use Rattle.laws.proofs.Stores.{half-same}
 

@@ -8,7 +8,7 @@ use lib.ListN.{length, drop, length-append, length-replicate}
 use lib.Seq.{sets, length-sets, take-at, take-append-seam, getD-drop}
 use borrow.Author.Tests.{eq-eqb, lt-ltb}
 use Rattle.model.specs.Lists.{firstOr0}
-use Rattle.numbers.specs.Bytes.{byte, be16, be32, u16, u32, zeros}
+use Rattle.model.specs.Bytes.{byte, be16, be32, u16, u32, zeros}
 use Rattle.model.specs.Directory.{padded, entrySize, inUse, numberIn, nameIn, finderIn, forkIn, forkPlace, forkOf, named}
 use Rattle.model.specs.Check.{goodEntry}
 use Rattle.model.specs.Calls.{newEntry, withFork}

@@ -9,14 +9,14 @@ use native.Mathlib.Decide.{decLt, decLe}
 use lib.ListN.{length, take, drop, length-append, length-drop, take-append-drop}
 use lib.Seq.{sets, paste, length-sets, length-paste, drop-paste, drop-drop, length-take-le, take-all, take-at, drop-at, getD-drop}
 use Rattle.model.specs.Lists.{every, flat}
-use Rattle.numbers.specs.Bytes.{byte, be16, be32, u16, u32, half}
-use Rattle.facts.specs.Facts.{factsIn, factsOf, dirStart, dirLength, nextNumber, freeCount, withCounts}
+use Rattle.model.specs.Bytes.{byte, be16, be32, u16, u32, half}
+use Rattle.model.specs.Facts.{factsIn, factsOf, dirStart, dirLength, nextNumber, freeCount, withCounts}
 use Rattle.model.specs.Map.{entryByte, mapEntry}
 use Rattle.model.specs.Directory.{cutBlocks, directoryBlocks, listing, directory}
 use Rattle.model.specs.Check.{goodEntry}
 use Rattle.model.specs.Calls.{withDirectory, withFiles, withNext, withFree}
-use Rattle.numbers.specs.Bytes.{Within}
-use Rattle.facts.specs.declared.VolumeFacts.{VolumeFacts}
+use Rattle.model.specs.Bytes.{Within}
+use Rattle.model.specs.declared.VolumeFacts.{VolumeFacts}
 use Rattle.model.proofs.Lists.{flat-append}
 use Rattle.laws.proofs.Stores.{sets-before, sets-behind, drop-sets, paste-before, paste-behind, be16-same, be32-same, part-same, be16-drop, be32-drop, be16-sets, be32-sets, half-sets-before, half-sets-behind, half-paste-before, half-paste-behind}
 use Rattle.laws.proofs.Blocks.{Whole, cut-whole, cut-count, cut-front, cut-flat, flat-cut, whole-length, whole-append, whole-parts, Cleans, whole-clean}

@@ -7,7 +7,7 @@ use native.Mathlib.Omega.{arith}
 use native.Mathlib.Decide.{ℕ-discrete}
 use lib.ListN.{length, take, drop}
 use Rattle.model.specs.Lists.{times}
-use Rattle.numbers.specs.Bytes.{half}
+use Rattle.model.specs.Bytes.{half}
 use Rattle.model.specs.Map.{mapEntry, setEntry, freeBlocks, behind, putChain, putFree}
 use Rattle.model.proofs.Times.{times-append, times-head, times-skip, times-tail}
 use Rattle.laws.proofs.Entries.{length-setEntry, drop-setEntry, take-setEntry, mapEntry-setEntry, mapEntry-setEntry-other, Clear, half-setEntry}

@@ -10,14 +10,14 @@ use native.Mathlib.Nat.{mul-le-mul-right, mul-div-left, zero-div}
 use lib.ListN.{length, take, drop, length-append, take-append-drop}
 use lib.Seq.{paste, length-paste, length-take-le, take-append-le}
 use Rattle.model.specs.Lists.{firstOr0, times, flat}
-use Rattle.numbers.specs.Bytes.{part, half, Bytes}
-use Rattle.facts.specs.Facts.{N, A, S, blockByte}
+use Rattle.model.specs.Bytes.{part, half, Bytes}
+use Rattle.model.specs.Facts.{N, A, S, blockByte}
 use Rattle.model.specs.Map.{mapEntry, chainBlocks, freeBlocks, putChain, putFree}
 use Rattle.model.specs.Directory.{blockCount, forkBlocks}
 use Rattle.model.specs.Check.{SoundFacts}
 use Rattle.model.specs.Calls.{fewest, grown, needed, bytesOf, forkBytes, putContent}
-use Rattle.numbers.specs.Bytes.{overwritten, Within}
-use Rattle.facts.specs.declared.VolumeFacts.{VolumeFacts}
+use Rattle.model.specs.Bytes.{overwritten, Within}
+use Rattle.model.specs.declared.VolumeFacts.{VolumeFacts}
 use Rattle.model.specs.declared.ForkFacts.{ForkFacts}
 use Rattle.model.proofs.Times.{times-append}
 use Rattle.laws.proofs.Entries.{Clear, clear}

@@ -9,7 +9,7 @@ use native.Mathlib.Nat.{zero-add, suc-add, add-suc}
 use lib.ListN.{length, take, drop, set, length-append, length-set}
 use lib.Seq.{sets, length-sets, set-append-left, take-append-seam, drop-append-seam, drop-append-add}
 use Rattle.model.specs.Lists.{any, distinct, flat}
-use Rattle.numbers.specs.Bytes.{zeros, part}
+use Rattle.model.specs.Bytes.{zeros, part}
 use Rattle.model.specs.Directory.{entries, readEnd, listing, named}
 use Rattle.model.specs.Check.{sameNames}
 use Rattle.model.specs.Calls.{filled, hasRoom, placed, removedIn, removed, onNamed, rewrittenIn, rewritten}

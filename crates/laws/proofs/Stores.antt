@@ -6,7 +6,7 @@ use native.Mathlib.Omega.{arith}
 use native.Mathlib.Nat.{add-suc, suc-add, add-zero, zero-add, add-assoc}
 use lib.ListN.{length, set, take, drop, length-set, length-take, length-drop, List·getD-append}
 use lib.Seq.{sets, paste, getD-set-same, getD-set-other, drop-set-lt, take-set-le, getD-append-add, drop-append-add, take-nil, length-take-le, getD-take, getD-drop, drop-paste, take-append-le, take-take, ext-getD}
-use Rattle.numbers.specs.Bytes.{byte, be16, be32, u16, u32, part, half}
+use Rattle.model.specs.Bytes.{byte, be16, be32, u16, u32, part, half}
 
 -- ---- a run of stores
 

@@ -1,8 +1,8 @@
 // Lists a volume: an image on standard input, a line for the volume and one for each file on standard output.
 ghost use mathlib.Core.Path.{_≡_};
 ghost use lib.ListN.{length};
-use facts::VolumeFacts;
 use model::DirectoryEntry;
+use model::VolumeFacts;
 
 // The most bytes of an image: 127 blocks.
 const MOST: usize = 65_024;
@@ -89,7 +89,7 @@ fn list(image: &[u8]) {
     let files = checked.facts.files as u64;
     let mut place: u64 = 0;
     while place < files {
-        let found = telling::serve_entry(image, checked.facts, place);
+        let found = call_read::serve_entry(image, checked.facts, place);
         print_file(found.entry);
         place += 1;
     }

@@ -11,15 +11,15 @@ use lib.ListN.{length, getD}
 use lib.Dec.{eqb, leb, ltb}
 use borrow.Author.Tests.{eqb-true, eqb-false, eq-eqb, ne-eqb, ltb-true, ltb-false, lt-ltb, le-ltb, leb-true, le-leb, not-false}
 use Rattle.model.specs.Lists.{every, distinct, times}
-use Rattle.numbers.specs.Bytes.{byte}
-use Rattle.facts.specs.Facts.{factsOf, dirStart, dirLength, N, A, S, nextNumber, freeCount, blocksIn}
+use Rattle.model.specs.Bytes.{byte}
+use Rattle.model.specs.Facts.{factsOf, dirStart, dirLength, N, A, S, nextNumber, freeCount, blocksIn}
 use Rattle.model.specs.Map.{mapEntry, sortOf, isBad, Chain, runs, chainBlocks, freeBlocks}
 use Rattle.model.specs.Directory.{entrySize, directory, numberIn, nameIn, forksIn, blockCount, forkBlocks, ownedBlocks}
 use Rattle.model.specs.Check.{fires1, fires2, fires3, fires4, fires5, goodEntry, fires6, goodNumber, sameNumbers, sameNames, fires7}
 use Rattle.model.specs.Check.{emptyFork, fullFork, goodFork, sharesNone, fires8, fires9, fires10}
 use Rattle.model.specs.Check.{orElse, from9, from8, from7, from6, from5, from4, from3, from2, verdict}
 use Rattle.model.specs.Check.{SoundFacts, SoundEntry, SoundDirectory, SoundFork, forkAt, Has, SoundMap, Accepted, VerdictIsAccepted}
-use Rattle.facts.specs.declared.VolumeFacts.{VolumeFacts}
+use Rattle.model.specs.declared.VolumeFacts.{VolumeFacts}
 use Rattle.model.specs.declared.ForkFacts.{ForkFacts}
 use Rattle.model.proofs.Lists.{and-true, or-false, not-so, so-not, every-at, at-every, distinct-at, at-distinct}
 use Rattle.model.proofs.Times.{flat-one, flat-two, flat-find, flat-once, every-from, from-every, any-from, from-any}

@@ -1,3 +1,5 @@
+pub mod Bytes
+pub mod Facts
 pub mod Lists
 pub mod Times
 pub mod Names

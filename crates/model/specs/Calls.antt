@@ -7,15 +7,15 @@ use lib.ListN.{length, getD, take, drop, replicate}
 use lib.Seq.{sets, paste}
 use lib.Dec.{eqb, leb, ltb}
 use Rattle.model.specs.Lists.{any, keep, first, placeOf, flat, firstOr0}
-use Rattle.numbers.specs.Bytes.{byte, u16, u32, zeros, part, Bytes, firstOf}
-use Rattle.facts.specs.Facts.{factsOf, dirStart, dirLength, N, A, S, nextNumber, freeCount, isLocked, blockByte, noFacts}
+use Rattle.model.specs.Bytes.{byte, u16, u32, zeros, part, Bytes, firstOf}
+use Rattle.model.specs.Facts.{factsOf, dirStart, dirLength, N, A, S, nextNumber, freeCount, isLocked, blockByte, noFacts}
 use Rattle.model.specs.Map.{mapEntry, freeBlocks, putChain, putFree}
 use Rattle.model.specs.Directory.{padded, entries, readEnd, directoryBlocks, directory, forkPlace, forkOf, entryIn, noEntry, flagsLock, blockCount, forkBlocks, named}
 use Rattle.model.specs.Check.{orElse, verdict}
-use Rattle.facts.specs.declared.VolumeFacts.{VolumeFacts}
+use Rattle.model.specs.declared.VolumeFacts.{VolumeFacts}
 use Rattle.model.specs.declared.DirectoryEntry.{DirectoryEntry}
 use Rattle.model.specs.declared.ForkFacts.{ForkFacts}
-use Rattle.facts.specs.declared.AllocationBlock.{AllocationBlock}
+use Rattle.model.specs.declared.AllocationBlock.{AllocationBlock}
 use Rattle.model.specs.declared.Fork.{Fork}
 use Rattle.model.specs.declared.Fork.the-variants.{Data, Resource}
 
@@ -30,29 +30,6 @@ pub data Call : Type 0 where
   write : (name : List ℕ) (fork : Fork) (offset : ℕ) (bytes : List ℕ) (changed : ℕ) → Call
   cut : (name : List ℕ) (fork : Fork) (size changed : ℕ) → Call
   delete : (name : List ℕ) → Call
-
--- the name and the fork that a call is given
-unfoldable pub nameOf : Call → List ℕ
-nameOf check = []
-nameOf (entry place) = []
-nameOf (find name) = name
-nameOf (block name fork place) = name
-nameOf (read name fork offset buffer) = name
-nameOf (create name finder created changed) = name
-nameOf (write name fork offset bytes changed) = name
-nameOf (cut name fork size changed) = name
-nameOf (delete name) = name
-
-unfoldable pub forkGiven : Call → Fork
-forkGiven check = Data
-forkGiven (entry place) = Data
-forkGiven (find name) = Data
-forkGiven (block name fork place) = fork
-forkGiven (read name fork offset buffer) = fork
-forkGiven (create name finder created changed) = Data
-forkGiven (write name fork offset bytes changed) = fork
-forkGiven (cut name fork size changed) = fork
-forkGiven (delete name) = Data
 
 -- ---- The refusals after 1 to 10
 
@@ -92,29 +69,6 @@ needed a logical blocks = fewest logical a - blocks
 unfoldable pub badName : List ℕ → Bool
 badName name = eqb (length name) 0 || ltb 255 (length name)
 
--- Entry 13. Find 12, 13. Block 12, 13, 16. Read 12, 13, 16. Create 11, 12, 14, 19, 18. Write and cut 11, 12, 13, 15, 16, and
--- write 17. Delete 11, 12, 13, 15.
-unfoldable pub refuses : Call → Known → ℕ
-refuses check k = 0
-refuses (entry place) k = orElse (leb (k .files) place) 13 0
-refuses (find name) k = orElse (badName name) 12 (orElse (not (k .exists)) 13 0)
-refuses (block name fork place) k =
-    orElse (badName name) 12 (orElse (not (k .exists)) 13 (orElse (leb (k .blocks) place) 16 0))
-refuses (read name fork offset buffer) k =
-    orElse (badName name) 12 (orElse (not (k .exists)) 13 (orElse (ltb (k .logical) offset) 16 0))
-refuses (create name finder created changed) k =
-    orElse (k .locked) 11 (orElse (badName name) 12 (orElse (k .exists) 14
-    (orElse (eqb (k .next) 4294967295) 19 (orElse (k .full) 18 0))))
-refuses (write name fork offset bytes changed) k =
-    orElse (k .locked) 11 (orElse (badName name) 12 (orElse (not (k .exists)) 13
-    (orElse (k .fileLocked) 15 (orElse (ltb (k .logical) offset) 16
-    (orElse (ltb (k .free) (needed (k .size) (grown (k .logical) offset (length bytes)) (k .blocks))) 17 0)))))
-refuses (cut name fork size changed) k =
-    orElse (k .locked) 11 (orElse (badName name) 12 (orElse (not (k .exists)) 13
-    (orElse (k .fileLocked) 15 (orElse (ltb (k .logical) size) 16 0))))
-refuses (delete name) k =
-    orElse (k .locked) 11 (orElse (badName name) 12 (orElse (not (k .exists)) 13 (orElse (k .fileLocked) 15 0)))
-
 -- ---- What the image says
 
 -- the entry of that name; no bytes where there is none
@@ -141,10 +95,6 @@ knownIn image name fork =
       next = nextNumber f;
       full = not (any (hasRoom (padded (51 + length name))) (directoryBlocks f image));
     }
-
--- Every call runs 1 to 10. Then its own.
-unfoldable pub refusal : Call → List ℕ → ℕ
-refusal call image = let own = refuses call (knownIn image (nameOf call) (forkGiven call)) in firstOf (verdict image) own
 
 -- ---- Fork bytes
 
@@ -268,21 +218,6 @@ deleted f image name e =
     withFree (freeCount f + length freed)
     (withFiles (f .files - 1) (withDirectory f (putFree image freed) (removed name (directoryBlocks f image))))
 
--- the image that a call leaves where it is not refused
-unfoldable pub change : Call → List ℕ → List ℕ
-change check image = image
-change (entry place) image = image
-change (find name) image = image
-change (block name fork place) image = image
-change (read name fork offset buffer) image = image
-change (create name finder made changed) image =
-    created (factsOf image) image (newEntry (nextNumber (factsOf image)) name finder made changed)
-change (write name fork offset bytes changed) image =
-    written (factsOf image) image name fork offset bytes changed (forkOf fork (entryNamed name image))
-change (cut name fork size changed) image =
-    shortened (factsOf image) image name fork size changed (forkOf fork (entryNamed name image))
-change (delete name) image = deleted (factsOf image) image name (entryNamed name image)
-
 -- ---- Answers
 
 -- what a call gives back: the number, and with success the facts, the place, the entry, the allocation block, the count and
@@ -329,31 +264,154 @@ tellsBytes bytes o buffer = record {
   buffer = copied bytes o buffer;
 }
 
--- the answer of a call that is not refused
-unfoldable pub reply : Call → List ℕ → Answer
-reply check image = tellsFacts (factsOf image)
-reply (entry place) image = tellsEntry 0 (entryIn (getD (directory image) place []))
-reply (find name) image = tellsEntry (placeOf (named name) (directory image)) (entryIn (entryNamed name image))
-reply (block name fork place) image =
-    tellsBlock (getD (forkBlocks (mapEntry image) (A (factsOf image)) (forkOf fork (entryNamed name image))) place 0)
-reply (read name fork offset buffer) image =
-    tellsBytes (forkBytes (S (factsOf image)) (A (factsOf image)) image (forkOf fork (entryNamed name image))) offset buffer
-reply (create name finder made changed) image = only 0 []
-reply (write name fork offset bytes changed) image = only 0 []
-reply (cut name fork size changed) image = only 0 []
-reply (delete name) image = only 0 []
+-- ---- What each call means
 
--- the buffer that is lent
+-- one clause for each call in `meaning`: its arguments, its refusals after 1 to 10, and what it answers and leaves where it is
+-- not refused
+pub record Meaning : Type 1 where
+  -- the name and the fork that it is given
+  pub name : List ℕ
+  pub fork : Fork
+  -- the buffer that is lent to it
+  pub lent : List ℕ
+  -- The arguments fit their types; arguments of fixed size come whole.
+  pub fits : Type 0
+  -- its numbers in document 01's order, 0 where none is given
+  pub refuses : Known → ℕ
+  -- what it answers, and the image that it leaves
+  pub reply : List ℕ → Answer
+  pub change : List ℕ → List ℕ
+
+-- the answer of a call that changes the image is its number alone
+abbrev numberAlone : List ℕ → Answer
+numberAlone image = only 0 []
+
+-- a call that reads leaves the image as it came
+abbrev unchanged : List ℕ → List ℕ
+unchanged image = image
+
+abbrev pub meaning : Call → Meaning
+-- Check a volume and give its facts.
+meaning check = record {
+  name = [];
+  fork = Data;
+  lent = [];
+  fits = Unit;
+  refuses = λ k. 0;
+  reply = λ image. tellsFacts (factsOf image);
+  change = unchanged;
+}
+-- Give the entry at a place in directory order: entry 13.
+meaning (entry place) = record {
+  name = [];
+  fork = Data;
+  lent = [];
+  fits = place < 2 ^ 64;
+  refuses = λ k. orElse (leb (k .files) place) 13 0;
+  reply = λ image. tellsEntry 0 (entryIn (getD (directory image) place []));
+  change = unchanged;
+}
+-- Find a name and give its place and entry: find 12, 13.
+meaning (find name) = record {
+  name = name;
+  fork = Data;
+  lent = [];
+  fits = Bytes name;
+  refuses = λ k. orElse (badName name) 12 (orElse (not (k .exists)) 13 0);
+  reply = λ image. tellsEntry (placeOf (named name) (directory image)) (entryIn (entryNamed name image));
+  change = unchanged;
+}
+-- Give the allocation block at a place in a fork: block 12, 13, 16.
+meaning (block name fork place) = record {
+  name = name;
+  fork = fork;
+  lent = [];
+  fits = Bytes name × (place < 2 ^ 64);
+  refuses = λ k. orElse (badName name) 12 (orElse (not (k .exists)) 13 (orElse (leb (k .blocks) place) 16 0));
+  reply = λ image. tellsBlock (getD (forkBlocks (mapEntry image) (A (factsOf image)) (forkOf fork (entryNamed name image))) place 0);
+  change = unchanged;
+}
+-- Read fork bytes into a lent buffer: read 12, 13, 16.
+meaning (read name fork offset buffer) = record {
+  name = name;
+  fork = fork;
+  lent = buffer;
+  fits = Bytes name × (offset < 2 ^ 64) × Bytes buffer;
+  refuses = λ k. orElse (badName name) 12 (orElse (not (k .exists)) 13 (orElse (ltb (k .logical) offset) 16 0));
+  reply = λ image. tellsBytes (forkBytes (S (factsOf image)) (A (factsOf image)) image (forkOf fork (entryNamed name image))) offset buffer;
+  change = unchanged;
+}
+-- Create an empty file: create 11, 12, 14, 19, 18.
+meaning (create name finder made changed) = record {
+  name = name;
+  fork = Data;
+  lent = [];
+  fits = Bytes name × Bytes finder × (length finder ≡ 16) × (made < 2 ^ 32) × (changed < 2 ^ 32);
+  refuses = λ k. orElse (k .locked) 11 (orElse (badName name) 12 (orElse (k .exists) 14
+      (orElse (eqb (k .next) 4294967295) 19 (orElse (k .full) 18 0))));
+  reply = numberAlone;
+  change = λ image. created (factsOf image) image (newEntry (nextNumber (factsOf image)) name finder made changed);
+}
+-- Write fork bytes at an offset: write and cut 11, 12, 13, 15, 16, and write 17.
+meaning (write name fork offset bytes changed) = record {
+  name = name;
+  fork = fork;
+  lent = [];
+  fits = Bytes name × (offset < 2 ^ 64) × Bytes bytes × (changed < 2 ^ 32);
+  refuses = λ k. orElse (k .locked) 11 (orElse (badName name) 12 (orElse (not (k .exists)) 13
+      (orElse (k .fileLocked) 15 (orElse (ltb (k .logical) offset) 16
+      (orElse (ltb (k .free) (needed (k .size) (grown (k .logical) offset (length bytes)) (k .blocks))) 17 0)))));
+  reply = numberAlone;
+  change = λ image. written (factsOf image) image name fork offset bytes changed (forkOf fork (entryNamed name image));
+}
+-- Cut a fork shorter.
+meaning (cut name fork size changed) = record {
+  name = name;
+  fork = fork;
+  lent = [];
+  fits = Bytes name × (size < 2 ^ 64) × (changed < 2 ^ 32);
+  refuses = λ k. orElse (k .locked) 11 (orElse (badName name) 12 (orElse (not (k .exists)) 13
+      (orElse (k .fileLocked) 15 (orElse (ltb (k .logical) size) 16 0))));
+  reply = numberAlone;
+  change = λ image. shortened (factsOf image) image name fork size changed (forkOf fork (entryNamed name image));
+}
+-- Delete a file: delete 11, 12, 13, 15.
+meaning (delete name) = record {
+  name = name;
+  fork = Data;
+  lent = [];
+  fits = Bytes name;
+  refuses = λ k. orElse (k .locked) 11 (orElse (badName name) 12 (orElse (not (k .exists)) 13 (orElse (k .fileLocked) 15 0)));
+  reply = numberAlone;
+  change = λ image. deleted (factsOf image) image name (entryNamed name image);
+}
+
+-- ---- The calls, by the fields of what they mean
+
+unfoldable pub nameOf : Call → List ℕ
+nameOf call = meaning call .name
+
+unfoldable pub forkGiven : Call → Fork
+forkGiven call = meaning call .fork
+
 unfoldable pub lent : Call → List ℕ
-lent check = []
-lent (entry place) = []
-lent (find name) = []
-lent (block name fork place) = []
-lent (read name fork offset buffer) = buffer
-lent (create name finder created changed) = []
-lent (write name fork offset bytes changed) = []
-lent (cut name fork size changed) = []
-lent (delete name) = []
+lent call = meaning call .lent
+
+unfoldable pub Fits : Call → Type 0
+Fits call = meaning call .fits
+
+unfoldable pub refuses : Call → Known → ℕ
+refuses call = meaning call .refuses
+
+unfoldable pub reply : Call → List ℕ → Answer
+reply call = meaning call .reply
+
+unfoldable pub change : Call → List ℕ → List ℕ
+change call = meaning call .change
+
+-- Every call runs 1 to 10. Then its own.
+unfoldable pub refusal : Call → List ℕ → ℕ
+refusal call image = let own = refuses call (knownIn image (nameOf call) (forkGiven call)) in firstOf (verdict image) own
 
 -- A refusal gives its number, all other results are zero, and no lent byte changes.
 unfoldable pub answer : Call → List ℕ → Answer
@@ -366,19 +424,6 @@ unfoldable pub after : Call → List ℕ → List ℕ
 after call image = let changed = change call image in cond (eqb (refusal call image) 0) changed image
 
 -- ---- A call that was made
-
--- The arguments fit their types; arguments of fixed size come whole.
-unfoldable pub Fits : Call → Type 0
-Fits check = Unit
-Fits (entry place) = place < 2 ^ 64
-Fits (find name) = Bytes name
-Fits (block name fork place) = Bytes name × (place < 2 ^ 64)
-Fits (read name fork offset buffer) = Bytes name × (offset < 2 ^ 64) × Bytes buffer
-Fits (create name finder created changed) =
-    Bytes name × Bytes finder × (length finder ≡ 16) × (created < 2 ^ 32) × (changed < 2 ^ 32)
-Fits (write name fork offset bytes changed) = Bytes name × (offset < 2 ^ 64) × Bytes bytes × (changed < 2 ^ 32)
-Fits (cut name fork size changed) = Bytes name × (size < 2 ^ 64) × (changed < 2 ^ 32)
-Fits (delete name) = Bytes name
 
 -- the call on the image gave this answer and left this image
 pub record Does (call : Call) (image : List ℕ) (given : Answer) (left : List ℕ) : Type 0 where

@@ -6,14 +6,14 @@ use mathlib.Core.List.{List, [], _∷_, _++_, map}
 use lib.ListN.{length, take, drop, replicate}
 use lib.Seq.{paste}
 use Rattle.model.specs.Lists.{flat, from}
-use Rattle.numbers.specs.Bytes.{byte, u16, u32, zeros, part}
-use Rattle.facts.specs.Facts.{factsOf, blocksIn, noFacts}
-use Rattle.model.specs.Map.{mapEntry}
+use Rattle.model.specs.Bytes.{byte, u16, u32, zeros, part}
+use Rattle.model.specs.Facts.{factsOf, blocksIn, noFacts}
+use Rattle.model.specs.Map.{mapEntry, putChain}
 use Rattle.model.specs.Directory.{noEntry}
 use Rattle.model.specs.Check.{fires3, verdict}
 use Rattle.model.specs.Calls.{Call, Answer, only, tellsFacts, tellsEntry, tellsBlock, answer, after}
 use Rattle.model.specs.Calls.Call.{check, entry, find, block, read, create, write, cut, delete}
-use Rattle.facts.specs.declared.VolumeFacts.{VolumeFacts}
+use Rattle.model.specs.declared.VolumeFacts.{VolumeFacts}
 use Rattle.model.specs.declared.DirectoryEntry.{DirectoryEntry}
 use Rattle.model.specs.declared.Fork.the-variants.{Data, Resource}
 
@@ -74,11 +74,15 @@ ratesEntry = entryBytes 0x80 2 (forkBytesOf 3 512 512) (zeros 10) 2500000000 250
 unfoldable pub hallMap : List ℕ
 hallMap = 0x00 ∷ 0x40 ∷ 0x01 ∷ 0x00 ∷ 0x10 ∷ 0x00 ∷ 0x00 ∷ 0x00 ∷ []
 
-unfoldable pub hallPlan : Plan
-hallPlan = record { attributes = 0; files = 2; dirLength = 1; next = 3; free = 2; map = hallMap; directory = weekEntry ++ ratesEntry }
+unfoldable pub hallPlan : List ℕ → Plan
+hallPlan map = record { attributes = 0; files = 2; dirLength = 1; next = 3; free = 2; map = map; directory = weekEntry ++ ratesEntry }
 
 unfoldable pub hall : List ℕ
-hall = disk hallPlan
+hall = disk (hallPlan hallMap)
+
+-- the same by the rules of the map: blocks 2 and 4 joined, and block 3, on a map of zeros
+unfoldable pub hallByRules : List ℕ
+hallByRules = putChain (putChain (disk (hallPlan [])) (2 ∷ 4 ∷ [])) (3 ∷ [])
 
 -- the image with xs at byte p
 unfoldable pub withBytes : ℕ → List ℕ → List ℕ → List ℕ
@@ -113,6 +117,8 @@ pub data Row : Type 0 where
   pair : (ab cd ef first second : ℕ) → Row
   -- an image has these bytes at a place, and the next one's high half-byte
   has : (image : List ℕ) (place : ℕ) (bytes : List ℕ) (high : ℕ) → Row
+  -- two images are equal
+  equal : (image other : List ℕ) → Row
   -- a call on an image, its whole answer and the whole image that it leaves
   does : (image : List ℕ) (call : Call) (given : Answer) (left : List ℕ) → Row
   -- every 800-block image of so many allocation blocks passes check 3, or gets 3
@@ -123,6 +129,7 @@ unfoldable pub Right : Row → Type 0
 Right (pair ab cd ef x y) =
     (mapEntry (zeros 1088 ++ (ab ∷ cd ∷ ef ∷ [])) 2 ≡ x) × (mapEntry (zeros 1088 ++ (ab ∷ cd ∷ ef ∷ [])) 3 ≡ y)
 Right (has image place bytes high) = (part place (length bytes) image ≡ bytes) × (byte image (place + length bytes) / 16 ≡ high)
+Right (equal image other) = image ≡ other
 Right (does image call given left) = (answer call image ≡ given) × (after call image ≡ left)
 Right (passes3 n) =
     (image : List ℕ) → length image ≡ 409600 → part 1024 64 image ≡ info800 n → fires3 (factsOf image) (blocksIn image) ≡ false
@@ -155,7 +162,8 @@ pCases =
     -- P1 AB CD EF reads as ABC, DEF.
     pair 0xab 0xcd 0xef 0xabc 0xdef
     -- P2 map bytes 00 40 01 00 10 00 00 and a high half-byte 0.
-    ∷ has hall 1088 (0x00 ∷ 0x40 ∷ 0x01 ∷ 0x00 ∷ 0x10 ∷ 0x00 ∷ 0x00 ∷ []) 0
+    ∷ has hallByRules 1088 (0x00 ∷ 0x40 ∷ 0x01 ∷ 0x00 ∷ 0x10 ∷ 0x00 ∷ 0x00 ∷ []) 0
+    ∷ equal hallByRules hall
     -- P3 write 400 at 700 in WEEK1: block 4 leads to 5, map begins 00 40 01 00 50 01, one free.
     ∷ does hall (write WEEK1 Data 700 (sample 0 400) 9) (only 0 [])
     (withBytes 1058 (u16 1) (withBytes 1088 (0x00 ∷ 0x40 ∷ 0x01 ∷ 0x00 ∷ 0x50 ∷ 0x01 ∷ [])
@@ -260,6 +268,10 @@ deadDisk = withBytes 1095 (0x0f ∷ sample 0 952) hall
 unfoldable pub fullWeek : List ℕ
 fullWeek = withBytes 2560 (sample 0 512) (withBytes 3584 (sample 512 512) hall)
 
+-- HALL, RATES having 3 resource bytes in block 5
+unfoldable pub resourceDisk : List ℕ
+resourceDisk = withBytes 1058 (u16 1) (withBytes 1093 (0x01 ∷ []) (withBytes 2136 (forkBytesOf 5 3 512) hall))
+
 -- HALL, WEEK1 being of 100 bytes in the same two blocks
 unfoldable pub roomyDisk : List ℕ
 roomyDisk = withBytes 2072 (u32 100) hall
@@ -333,6 +345,10 @@ telling =
     ∷ does deadDisk (write WEEK1 Data 700 (sample 0 1348) 9) (only 0 [])
     (withBytes 1058 (u16 0) (withBytes 1092 (0x50 ∷ 0x06 ∷ 0x00 ∷ 0x1f ∷ [])
     (withWeek1 2 2048 2048 9 (withBytes 3772 (sample 0 324) (withBytes 4096 (sample 324 1024) deadDisk)))))
+    -- delete frees the blocks of both forks
+    ∷ does resourceDisk (delete RATES) (only 0 [])
+    (withBytes 1036 (u16 1) (withBytes 1058 (u16 3) (withBytes 1088 (0x00 ∷ 0x40 ∷ 0x00 ∷ 0x00 ∷ 0x10 ∷ 0x00 ∷ [])
+    (withBytes 2104 (zeros 456) resourceDisk))))
     ∷ []
 
 unfoldable pub FurtherCases : Type 0

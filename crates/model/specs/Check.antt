@@ -7,11 +7,11 @@ use mathlib.Core.Logic.{_↔_}
 use lib.ListN.{length, getD}
 use lib.Dec.{eqb, leb, ltb}
 use Rattle.model.specs.Lists.{every, any, distinct, from, times}
-use Rattle.numbers.specs.Bytes.{byte}
-use Rattle.facts.specs.Facts.{factsOf, dirStart, dirLength, N, A, S, nextNumber, freeCount, blocksIn}
+use Rattle.model.specs.Bytes.{byte}
+use Rattle.model.specs.Facts.{factsOf, dirStart, dirLength, N, A, S, nextNumber, freeCount, blocksIn}
 use Rattle.model.specs.Map.{mapEntry, sortOf, isBad, Chain, runs, freeBlocks}
 use Rattle.model.specs.Directory.{entrySize, directory, numberIn, nameIn, forksIn, blockCount, forkBlocks, ownedBlocks, folded, sameName}
-use Rattle.facts.specs.declared.VolumeFacts.{VolumeFacts}
+use Rattle.model.specs.declared.VolumeFacts.{VolumeFacts}
 use Rattle.model.specs.declared.ForkFacts.{ForkFacts}
 
 -- ---- 1 to 4: the volume information

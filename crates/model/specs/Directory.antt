@@ -5,10 +5,10 @@ use mathlib.Core.List.{List, [], _∷_, _++_, map}
 use lib.ListN.{length, getD, take, drop, replicate}
 use lib.Dec.{eqb, leb}
 use Rattle.model.specs.Lists.{flat, same}
-use Rattle.numbers.specs.Bytes.{byte, be16, be32, zeros, part}
-use Rattle.facts.specs.Facts.{factsOf, dirStart, dirLength}
+use Rattle.model.specs.Bytes.{byte, be16, be32, zeros, part}
+use Rattle.model.specs.Facts.{factsOf, dirStart, dirLength}
 use Rattle.model.specs.Map.{chainBlocks}
-use Rattle.facts.specs.declared.VolumeFacts.{VolumeFacts}
+use Rattle.model.specs.declared.VolumeFacts.{VolumeFacts}
 use Rattle.model.specs.declared.DirectoryEntry.{DirectoryEntry}
 use Rattle.model.specs.declared.ForkFacts.{ForkFacts}
 use Rattle.model.specs.declared.Fork.{Fork}

@@ -1,4 +1,6 @@
+pub mod Bytes
 pub mod Lists
+pub mod Facts
 pub mod Map
 pub mod Directory
 pub mod Check

@@ -6,7 +6,7 @@ use mathlib.Core.List.{List, [], _∷_}
 use lib.ListN.{getD, set}
 use lib.Dec.{eqb, leb}
 use Rattle.model.specs.Lists.{keep, from}
-use Rattle.numbers.specs.Bytes.{byte}
+use Rattle.model.specs.Bytes.{byte}
 use Rattle.model.specs.declared.MapValue.{MapValue}
 use Rattle.model.specs.declared.MapValue.the-variants.{Free, Last, Next, Bad}
 

@@ -1,7 +1,39 @@
-// The types that the definitions of MFS share with the code, and the statements that the definitions are held to.
+// What document 01 says: its definitions, in specs/, with the types that they share with the code; numbers and volume facts
+// read from bytes; and the statements that the definitions are held to.
 ghost use Rattle.model.specs.Cases.{FurtherCases, PCases};
 ghost use Rattle.model.specs.Check.{VerdictIsAccepted};
-use facts::AllocationBlock;
+
+mod block_numbers;
+mod numbers;
+mod volume_facts;
+
+pub use numbers::be16_at;
+pub use numbers::be32_at;
+
+// The number of an allocation block: 2 to N + 1.
+pub struct AllocationBlock(pub u16);
+
+// The number of a logical block of 512 bytes.
+pub struct LogicalBlock(pub u32);
+
+// The facts of the volume information.
+pub struct VolumeFacts {
+    pub signature: u16,
+    pub created: u32,
+    pub backup: u32,
+    pub attributes: u16,
+    pub files: u16,
+    pub directory_start: LogicalBlock,
+    pub directory_length: u16,
+    pub allocation_blocks: u16,
+    pub block_size: u32,
+    pub clump_size: u32,
+    pub allocation_start: LogicalBlock,
+    pub next_number: u32,
+    pub free_blocks: u16,
+    pub name_length: u8,
+    pub name: [u8; 27],
+}
 
 // What a map entry says of its block.
 pub enum MapValue {

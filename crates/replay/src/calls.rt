@@ -2,10 +2,10 @@
 ghost use mathlib.Core.Path.{_≡_};
 ghost use lib.ListN.{length};
 use model::Fork;
-use tape::input;
-use tape::input::Field;
-use tape::input::ForkField;
-use tape::line;
+use replay_records::input;
+use replay_records::input::Field;
+use replay_records::input::ForkField;
+use replay_records::line;
 
 // The most bytes of a read's buffer.
 const MOST_READ: usize = 65_535;

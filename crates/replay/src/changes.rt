@@ -1,11 +1,11 @@
 // The records of the calls that change the image: each reads its fields, makes the call and prints its line. False ends the run.
 ghost use mathlib.Core.Path.{_≡_};
 ghost use lib.ListN.{length};
-use tape::input;
-use tape::input::DateField;
-use tape::input::Field;
-use tape::input::ForkField;
-use tape::line;
+use replay_records::input;
+use replay_records::input::DateField;
+use replay_records::input::Field;
+use replay_records::input::ForkField;
+use replay_records::line;
 
 // The most bytes of a write.
 const MOST_WRITTEN: usize = 65_535;

@@ -5,9 +5,9 @@ ghost use lib.ListN.{length};
 mod calls;
 mod changes;
 
-use tape::input;
-use tape::input::Field;
-use tape::input::Tag;
+use replay_records::input;
+use replay_records::input::Field;
+use replay_records::input::Tag;
 
 // The most bytes of an image.
 const MOST: usize = 419_328;

@@ -7,18 +7,18 @@ use native.Mathlib.Omega.{arith}
 use native.Mathlib.Decide.{ℕ-discrete}
 use lib.ListN.{length}
 use borrow.Author.Tests.{eq-eqb, ne-eqb}
-use Rattle.numbers.specs.Bytes.{Bytes, firstOf}
-use Rattle.facts.specs.Facts.{factsOf, noFacts}
+use Rattle.model.specs.Bytes.{Bytes, firstOf}
+use Rattle.model.specs.Facts.{factsOf, noFacts}
 use Rattle.model.specs.Check.{fires1, from2, verdict}
 use Rattle.model.specs.Calls.{Answer, refuses, refusal, only, tellsFacts, reply, lent, change, answer, Fits, Does}
 use Rattle.model.specs.Calls.Call.{check}
-use Rattle.facts.specs.declared.VolumeFacts.{VolumeFacts}
+use Rattle.model.specs.declared.VolumeFacts.{VolumeFacts}
 use Rattle.laws.proofs.Calls.{by-volume, by-own, does-refuse, does-serve}
 use Rattle.model.proofs.Check.{verdict-accepted}
-use Rattle.answers.specs.declared.CheckAnswer.{CheckAnswer}
-use Rattle.answers.specs.Told.{toldCheck}
+use Rattle.files.specs.declared.CheckAnswer.{CheckAnswer}
+use Rattle.files.specs.Told.{toldCheck}
 use Rattle.files.specs.Lookup.{Readable}
-use Rattle.limits.proofs.Firing.{fires-here, passes-here}
+use Rattle.checks.proofs.Firing.{fires-here, passes-here}
 
 -- ---- the returns of `check`
 

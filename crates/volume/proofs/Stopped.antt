@@ -3,7 +3,7 @@ use Prim.Native.Nat.{ℕ, _^_, _<_}
 use mathlib.Core.Path.{_≡_}
 use mathlib.Core.List.{List}
 use lib.ListN.{length}
-use Rattle.numbers.specs.Bytes.{Bytes}
+use Rattle.model.specs.Bytes.{Bytes}
 use Rattle.model.specs.Directory.{noEntry}
 use Rattle.model.specs.Check.{verdict}
 use Rattle.model.specs.Calls.{Call, Does, Fits}
@@ -12,7 +12,7 @@ use Rattle.model.specs.Calls.Call.{entry, find, block, read, create, write, cut
 use Rattle.laws.proofs.Calls.{by-volume, does-refuse}
 use Rattle.model.specs.declared.DirectoryEntry.{DirectoryEntry}
 use Rattle.model.specs.declared.Fork.{Fork}
-use Rattle.answers.specs.Told.{toldEntry, toldFind, toldBlock, toldRead, toldNumber}
+use Rattle.files.specs.Told.{toldEntry, toldFind, toldBlock, toldRead, toldNumber}
 
 module _ {image : List ℕ} {n : ℕ} (octets : Bytes image) (v : n ≡ verdict image) (z : n ≡ 0 → ⊥) where
   stop : (call : Call) → Fits call → Does call image (only n (lent call)) image

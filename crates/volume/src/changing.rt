@@ -1,18 +1,18 @@
 // The calls that change the image: each checks the volume, then answers.
 ghost use Rattle.model.specs.Calls.{Call, Does};
-ghost use Rattle.answers.specs.Told.{toldNumber};
+ghost use Rattle.files.specs.Told.{toldNumber};
 use crate::checking::check;
-use creating::serve_create;
-use cutting::serve_cut;
-use deleting::serve_delete;
+use call_create::serve_create;
+use call_cut::serve_cut;
+use call_delete::serve_delete;
+use call_write::serve_write;
 use model::Fork;
-use writing::serve_write;
 
 // Puts in an empty file.
 pub fn create(image: &mut [u8], name: &[u8], finder: &[u8; 16], created: u32, changed: u32) -> u8
     ensures { λ r. ⌜ Does (Call.create (now (name .entry)) (now (finder .entry)) created changed) (now (image .entry)) (toldNumber r) (now (image .exit)) ⌝ }
 {
-    creating::whole(finder);
+    call_create::whole(finder);
     let checked = check(image);
     if checked.number != 0 {
         return checked.number;

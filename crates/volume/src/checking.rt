@@ -1,15 +1,15 @@
 // check: the number of the first check that fires, or the volume's facts.
 ghost use Rattle.model.specs.Calls.{Call, Does};
-ghost use Rattle.answers.specs.Told.{toldCheck};
-use answers::CheckAnswer;
-use answers::no_facts;
-use facts::VolumeFacts;
+ghost use Rattle.files.specs.Told.{toldCheck};
+use files::CheckAnswer;
+use files::no_facts;
+use model::VolumeFacts;
 
 // Checks the volume and gives its facts.
 pub fn check(image: &[u8]) -> CheckAnswer
     ensures { λ r. ⌜ Does Call.check (now (image .entry)) (toldCheck r) (now (image .exit)) ⌝ }
 {
-    if limits::bad_length(image.len()) {
+    if checks::bad_length(image.len()) {
         return CheckAnswer {
             number: 1,
             facts: no_facts(),

@@ -1,18 +1,18 @@
 // The calls that change nothing: each checks the volume, then answers.
 ghost use Rattle.model.specs.Calls.{Call, Does};
-ghost use Rattle.answers.specs.Told.{toldEntry, toldFind, toldBlock, toldRead};
+ghost use Rattle.files.specs.Told.{toldEntry, toldFind, toldBlock, toldRead};
 use crate::checking::check;
-use answering::serve_block;
-use answering::serve_read;
-use answers::BlockAnswer;
-use answers::EntryAnswer;
-use answers::FindAnswer;
-use answers::ReadAnswer;
-use answers::no_entry;
-use facts::AllocationBlock;
+use call_read::serve_block;
+use call_read::serve_entry;
+use call_read::serve_find;
+use call_read::serve_read;
+use files::BlockAnswer;
+use files::EntryAnswer;
+use files::FindAnswer;
+use files::ReadAnswer;
+use files::no_entry;
+use model::AllocationBlock;
 use model::Fork;
-use telling::serve_entry;
-use telling::serve_find;
 
 // The entry at a place in directory order.
 pub fn entry(image: &[u8], place: u64) -> EntryAnswer

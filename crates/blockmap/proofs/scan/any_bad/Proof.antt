@@ -10,7 +10,7 @@ use denote.Ref.{now}
 use Rattle.model.specs.Lists.{any}
 use Rattle.model.specs.Map.{sortOf, isBad}
 use Rattle.model.specs.Check.{fires5}
-use Rattle.packed.specs.Decoded.{entryIn}
+use Rattle.blockmap.specs.Decoded.{entryIn}
 use Rattle.blockmap.proofs.Ranges.{onward, all-onward, flag-hit, flag-miss, flag-none}
 use borrow.Author.Needs.{needs}
 use Rattle.blockmap.proofs.scan.any_bad.Statement.{statement}

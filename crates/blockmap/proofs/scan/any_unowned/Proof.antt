@@ -9,7 +9,7 @@ use denote.Ref.{now}
 use lib.ListN.{getD}
 use lib.Dec.{eqb, ltb}
 use Rattle.model.specs.Lists.{any}
-use Rattle.packed.specs.Decoded.{entryIn}
+use Rattle.blockmap.specs.Decoded.{entryIn}
 use Rattle.blockmap.specs.Marks.{unowned}
 use Rattle.blockmap.proofs.Ranges.{onward, all-onward, flag-on, flag-none}
 use borrow.Author.Needs.{needs}

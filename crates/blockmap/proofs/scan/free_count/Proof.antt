@@ -11,7 +11,7 @@ use lib.Dec.{eqb}
 use borrow.Author.Tests.{eq-eqb, ne-eqb}
 use Rattle.model.specs.Lists.{keep}
 use Rattle.model.specs.Map.{freeBlocks}
-use Rattle.packed.specs.Decoded.{entryIn}
+use Rattle.blockmap.specs.Decoded.{entryIn}
 use Rattle.blockmap.proofs.Ranges.{onward, all-onward, count-hit, count-miss, count-none}
 use Rattle.blockmap.proofs.scan.free_count.Statement.{statement}
 use Rattle.blockmap.proofs.scan.free_count.Tie as tie

@@ -7,7 +7,7 @@ use borrow.Author.Tests.{not-true, not-false}
 use Rattle.model.specs.Directory.{forkOf, forksIn}
 use Rattle.model.specs.declared.ForkFacts.{ForkFacts}
 use Rattle.model.specs.declared.Fork.the-variants.{Data, Resource}
-use Rattle.packed.specs.Decoded.{entryIn}
+use Rattle.blockmap.specs.Decoded.{entryIn}
 use Rattle.directory.specs.Cursor.{restOf, Passes, ahead, bytesAt, Moves}
 use Rattle.directory.proofs.Each.{moved, ended, failed, passes-more, never-fails}
 use Rattle.checks.proofs.Claims.{Onward, onward-none, onward-same, onward-end, onward-claim, onward-not, forks-more, forks-none}

@@ -3,7 +3,7 @@ use mathlib.Core.Path.{_≡_, sym, _∙_}
 use native.Mathlib.Omega.{arith}
 use lib.ListN.{length}
 use denote.Ref.{now}
-use Rattle.facts.specs.Facts.{N}
+use Rattle.model.specs.Facts.{N}
 use Rattle.model.specs.Map.{mapEntry}
 use Rattle.model.specs.Directory.{directory}
 use Rattle.model.specs.Check.{fires5, SoundFacts}

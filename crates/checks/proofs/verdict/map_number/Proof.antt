@@ -3,7 +3,7 @@ use mathlib.Core.Path.{_≡_, sym, _∙_}
 use lib.ListN.{length, replicate}
 use denote.Ref.{now}
 use borrow.Author.Tests.{not-true, not-false}
-use Rattle.facts.specs.Facts.{N, A}
+use Rattle.model.specs.Facts.{N, A}
 use Rattle.model.specs.Map.{mapEntry, freeBlocks}
 use Rattle.model.specs.Directory.{forksIn}
 use Rattle.blockmap.specs.Marks.{unowned}

@@ -4,7 +4,7 @@ use Prim.Native.Nat.{ℕ, _+_, _<_}
 use mathlib.Core.Path.{refl}
 use native.Mathlib.Omega.{arith}
 use denote.Ref.{now}
-use Rattle.numbers.specs.Bytes.{byte}
+use Rattle.model.specs.Bytes.{byte}
 use Rattle.model.specs.Directory.{padded}
 use Rattle.directory.proofs.Steps.{short, version, nameless, crosses, moves}
 use borrow.Author.Needs.{needs}

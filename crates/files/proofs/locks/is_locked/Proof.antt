@@ -1,7 +1,7 @@
 -- `is_locked` meets its contract. Assumes nothing.
 use Prim.Native.Nat.{_/_, _%_}
 use borrow.Author.Tests.{eq-eqb, ne-eqb}
-use Rattle.facts.specs.Facts.{isLocked}
+use Rattle.model.specs.Facts.{isLocked}
 use Rattle.files.proofs.locks.is_locked.Statement.{statement}
 use Rattle.files.proofs.locks.is_locked.Tie as tie
 

@@ -9,7 +9,7 @@ use mir.Facts.{fits-le}
 use denote.Ref.{now}
 use lib.ListN.{length, take, drop}
 use lib.Seq.{paste}
-use Rattle.facts.specs.Facts.{blockByte}
+use Rattle.model.specs.Facts.{blockByte}
 use Rattle.forks.proofs.Copying.{Onward, onward-block, onward-lies, Midway, midway-first, midway-copied, midway-next, bytesFrom}
 use Rattle.forks.proofs.Copying.{fork-enough, fork-part, place-small, has-place, fork-onward}
 use Rattle.forks.proofs.Copying.{positive, place-fits, long, multiple, turn-in-block, turn-in-count, turn-less, turn-whole, from-fits, from-within, all-done, before-all, to-within}

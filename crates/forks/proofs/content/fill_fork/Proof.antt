@@ -11,7 +11,7 @@ use mir.Facts.{fits-le}
 use denote.Ref.{now}
 use lib.ListN.{length, drop}
 use lib.Seq.{paste}
-use Rattle.facts.specs.Facts.{blockByte}
+use Rattle.model.specs.Facts.{blockByte}
 use Rattle.model.specs.Map.{mapEntry, chainBlocks}
 use Rattle.model.specs.Calls.{putContent}
 use Rattle.forks.proofs.Filling.{Due, due-block, due-lies, Partway, partway-first, partway-last, partway-next}

@@ -4,7 +4,7 @@ use mathlib.Core.Path.{_≡_, refl, ap, subst, _∙_}
 use native.Mathlib.Omega.{arith}
 use lib.ListN.{length, set, take, drop, length-set, length-replicate}
 use lib.Seq.{paste, paste-zero}
-use Rattle.numbers.specs.Bytes.{byte}
+use Rattle.model.specs.Bytes.{byte}
 use Rattle.forks.proofs.Moves.{hold-byte, move-byte, paste-same}
 use Rattle.forks.proofs.moving.move_bytes.Statement.{statement}
 use Rattle.forks.proofs.moving.move_bytes.Tie as tie

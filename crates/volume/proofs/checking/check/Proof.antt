@@ -4,10 +4,10 @@ use mathlib.Core.Bool.{false}
 use native.Mathlib.Omega.{arith}
 use lib.ListN.{length}
 use denote.Ref.{now}
-use Rattle.numbers.specs.Bytes.{Bytes}
+use Rattle.model.specs.Bytes.{Bytes}
 use Rattle.model.specs.Check.{fires1}
 use Rattle.checks.proofs.Numbers.{judged}
-use Rattle.limits.proofs.Numbered.{long-blocks}
+use Rattle.checks.proofs.Numbered.{long-blocks}
 use Rattle.volume.proofs.Checked.{does-1, does-number, does-facts}
 use borrow.Author.Needs.{needs}
 use Rattle.volume.proofs.checking.check.Statement.{statement}

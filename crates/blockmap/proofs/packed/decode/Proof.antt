@@ -1,0 +1,118 @@
+-- `decode` meets its contract. The invariant: b is even, `at` is the first byte of its pair, and the blocks below b are decoded.
+-- Assumes nothing.
+use Prim.Native.Nat.{ℕ, _+_, _-_, _%_, _≤_, _<_}
+use mathlib.Core.Path.{_≡_, _∙_}
+use native.Mathlib.Omega.{arith}
+use denote.Ref.{now}
+use lib.ListN.{length, length-set, length-replicate}
+use Rattle.model.specs.Map.{entryByte}
+use Rattle.blockmap.proofs.Pairs.{Below, first-entry, second-entry, below-more, below-all}
+use borrow.Author.Needs.{needs}
+use Rattle.blockmap.proofs.packed.decode.Statement.{statement}
+use Rattle.blockmap.proofs.packed.decode.Tie as tie
+
+abbrev Inv-loop : tie.InvT-loop
+Inv-loop image n entries₀ end at₀ b₀ entries at b =
+    (2 ≤ b) × (b % 2 ≡ 0) × (b ≤ n + 3) × (at ≡ entryByte b) × (length entries ≡ 642) × Below image b entries
+
+abbrev μ-loop : tie.MeasureT-loop
+μ-loop image n entries₀ end at₀ b₀ entries at b = n + 3 - b
+
+add-end : tie.Need-add-end Inv-loop μ-loop
+add-end c = omega arith
+
+loop-holds : tie.Need-loop-holds Inv-loop μ-loop
+loop-holds c = (omega arith, omega arith, omega arith, omega arith, length-replicate {A = ℕ} 642 0, λ i low high. absurd (omega arith))
+
+add-second : tie.Need-add-second Inv-loop μ-loop
+add-second c = omega arith
+
+shared-slice-read-second : tie.Need-shared-slice-read-second Inv-loop μ-loop
+shared-slice-read-second c = omega arith
+
+shared-slice-read-join-even : tie.Need-shared-slice-read-join-even Inv-loop μ-loop
+shared-slice-read-join-even c = omega arith
+
+join-even-requires : tie.Need-join-even-requires Inv-loop μ-loop
+join-even-requires c κs = search needs
+
+add-join-odd : tie.Need-add-join-odd Inv-loop μ-loop
+add-join-odd c = omega arith
+
+shared-slice-read-join-odd : tie.Need-shared-slice-read-join-odd Inv-loop μ-loop
+shared-slice-read-join-odd c = omega arith
+
+join-odd-requires : tie.Need-join-odd-requires Inv-loop μ-loop
+join-odd-requires c κs = search needs
+
+mul-entries : tie.Need-mul-entries Inv-loop μ-loop
+mul-entries c = omega arith
+
+array-write-entries : tie.Need-array-write-entries Inv-loop μ-loop
+array-write-entries c = omega arith
+
+add-entries : tie.Need-add-entries Inv-loop μ-loop
+add-entries c = omega arith
+
+mul-entries-2 : tie.Need-mul-entries-2 Inv-loop μ-loop
+mul-entries-2 c = omega arith
+
+array-write-entries-2 : tie.Need-array-write-entries-2 Inv-loop μ-loop
+array-write-entries-2 c = omega arith
+
+add-at : tie.Need-add-at Inv-loop μ-loop
+add-at c = omega arith
+
+add-b : tie.Need-add-b Inv-loop μ-loop
+add-b c = omega arith
+
+loop-less : tie.Need-loop-less Inv-loop μ-loop
+loop-less c = omega arith
+
+loop-again : tie.Need-loop-again Inv-loop μ-loop
+loop-again c =
+    let pair = c .before .before in
+    let at = pair .before .before .before .before in
+    let l = at .loop in
+    let image = now (at .before .before .args .image) in
+    let v = pair .join-even .ensures .0 ∙ first-entry image (l .b) (l .at) (l .inv .0) (l .inv .1) (l .inv .3) in
+    let w = c .join-odd .ensures .0 ∙ second-entry image (l .b) (l .at) (l .inv .0) (l .inv .1) (l .inv .3) in (
+      omega arith,
+      omega arith,
+      omega arith,
+      omega arith,
+      simp length-set (l .inv .4),
+      below-more image (l .b) (l .entries) _ _ (omega arith) v w (l .inv .5),
+    )
+
+returns : tie.Need-returns Inv-loop μ-loop
+returns c =
+    let l = c .before .loop in
+    let a = c .before .before .before .args in
+    below-all (now (a .image)) (a .n) (l .b) (l .entries) (omega arith) (l .inv .5)
+
+pub decode-spec : {M : Type 1} → statement M
+decode-spec =
+    tie.close
+    (tie.spec
+    Inv-loop
+    μ-loop
+    add-end
+    loop-holds
+    add-second
+    shared-slice-read-second
+    shared-slice-read-join-even
+    join-even-requires
+    add-join-odd
+    shared-slice-read-join-odd
+    join-odd-requires
+    mul-entries
+    array-write-entries
+    add-entries
+    mul-entries-2
+    array-write-entries-2
+    add-at
+    add-b
+    loop-less
+    loop-again
+    returns)

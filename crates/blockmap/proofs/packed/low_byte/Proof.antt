@@ -1,0 +1,13 @@
+-- `low_byte` meets its contract: the mask is a remainder. Assumes nothing.
+use lib.Bits.{and-mask, mask-lt}
+use Rattle.blockmap.proofs.packed.low_byte.Statement.{statement}
+use Rattle.blockmap.proofs.packed.low_byte.Tie as tie
+
+cast-result : tie.Need-cast-result
+cast-result c = record { fits = mask-lt (c .args .value) 8 }
+
+returns : tie.Need-returns
+returns c = and-mask (c .args .value) 8
+
+pub low-byte-spec : {M : Type 1} → statement M
+low-byte-spec = tie.close (tie.spec cast-result returns)

@@ -1,0 +1,84 @@
+-- Laws of a new file: the entry put in and the counts after it.
+use Prim.Native.Nat.{ℕ, _+_, _-_, _*_, _≤_, _<_}
+use mathlib.Core.Path.{_≡_, refl, sym, ap, _∙_}
+use mathlib.Core.Bool.{true}
+use mathlib.Core.List.{List, [], _∷_, _++_}
+use native.Mathlib.Omega.{arith}
+use lib.ListN.{length, drop}
+use lib.Seq.{paste, drop-drop}
+use borrow.Author.Tests.{leb-true}
+use Rattle.model.specs.Lists.{any}
+use Rattle.model.specs.Bytes.{part}
+use Rattle.model.specs.Facts.{dirStart, dirLength, nextNumber}
+use Rattle.model.specs.Directory.{padded, entries, readEnd, cutBlocks, directoryBlocks}
+use Rattle.model.specs.Calls.{hasRoom, newEntry, filled, withFiles, withNext, created}
+use Rattle.model.proofs.Lists.{any-append}
+use Rattle.laws.proofs.Entry.{new-length, new-sound}
+use Rattle.laws.proofs.Blocks.{Cleans}
+use Rattle.history.proofs.BytesKept.{files-few}
+use Rattle.laws.proofs.DirectorySteps.{clean-now}
+use Rattle.history.proofs.Joined.{readable-of}
+use Rattle.directory.specs.Cursor.{Begins}
+use Rattle.entries.specs.Blocks.{Block}
+use Rattle.entries.specs.Rooms.{HasRoom}
+use Rattle.directory.proofs.Steps.{blocks-rest}
+use Rattle.entries.proofs.Located.{cut-at}
+use Rattle.entries.proofs.Rooming.{block-of, room-placed}
+use Rattle.model.specs.declared.VolumeFacts.{VolumeFacts}
+use Rattle.directory.specs.declared.Cursor.{Cursor}
+use Rattle.call_create.specs.Adding.{Adds, withFile}
+use Rattle.files.specs.Lookup.{Readable}
+use Rattle.files.proofs.Lookups.{some-block, first-passes}
+
+-- ---- the entry put in
+
+module _ {f : VolumeFacts} {image : List ℕ} (r : Readable f image) where
+  dir-within : 512 * dirStart f + 512 * dirLength f ≤ length image
+  dir-within = rw (r .facts) (readable-of image (r .accepted) .within)
+
+  dir-clean : Cleans (directoryBlocks f image)
+  dir-clean = rw (r .facts) (clean-now image (readable-of image (r .accepted)))
+
+  -- so few files that one more can be counted
+  pub files-more : f .files + 1 < 65536
+  files-more = let few : f .files ≤ 2560 = rw (r .facts) (files-few image (r .accepted)) in omega arith
+
+  module _ (title base end : ℕ) (a : Adds f image title base end) where
+    abbrev first : Cursor
+    first = record { base = 512 * dirStart f; at = 0; left = dirLength f - 1 }
+
+    first-begins : Begins (dirStart f) (dirLength f) first
+    first-begins =
+        let some = some-block r in
+        record { base = refl; at = refl; left = omega arith; rest = λ i. sym (blocks-rest i (dirLength f) (512 * dirStart f) (λ z. omega arith)) }
+
+    pub adds-block : Block image base
+    adds-block = rw (a .room .block) (block-of image first (first-passes r first first-begins) refl (a .room .index) (omega (arith, a .room .within, a .count)))
+
+    pub adds-behind : (end ≡ readEnd (part base 512 image)) × (end + padded (51 + title) ≤ 512) × (title ≤ 255)
+    unfolding hasRoom
+    adds-behind = (a .room .ends, omega (arith, leb-true (readEnd (part base 512 image) + padded (51 + title)) 512 (a .room .room), a .room .ends), a .most)
+
+    -- some block has room
+    pub adds-some : any (hasRoom (padded (51 + title))) (directoryBlocks f image) ≡ true
+    unfolding directoryBlocks any
+    adds-some =
+        let i = a .room .index in
+        let d = drop (512 * dirStart f) image in
+        let p = hasRoom (padded (51 + title)) in
+        let x = cutBlocks i d in
+        let b = part (512 * i) 512 d in
+        let y = cutBlocks (dirLength f - (i + 1)) (drop (512 * (i + 1)) d) in
+        let own : p b ≡ true = rw (drop-drop (512 * i) (512 * dirStart f) image, ← a .room .block) (a .room .room) in
+        ap (any p) (cut-at i (dirLength f) d (omega (arith, a .room .within, a .count))) ∙ any-append p x (b ∷ y) ∙ rw (a .room .none, own)
+
+  -- the three stores
+  pub added : (name finder : List ℕ) (made changed base end : ℕ) → Adds f image (length name) base end → length finder ≡ 16 → (x y z : List ℕ)
+      → x ≡ paste image base (filled (entries (part base 512 image) ++ (newEntry (nextNumber f) name finder made changed ∷ []))) 512
+      → y ≡ withNext (nextNumber f + 1) x → z ≡ withFiles (f .files + 1) y → z ≡ withFile f image name finder made changed
+  unfolding created
+  added name finder made changed base end a whole x y z px py pz =
+      let e = newEntry (nextNumber f) name finder made changed in
+      let room : HasRoom image (512 * dirStart f) (a .left) (length e) base end = rw (new-length (nextNumber f) name finder made changed whole) (a .room) in
+      let put = room-placed f image dir-within dir-clean e (new-sound (nextNumber f) name finder made changed whole (a .some)) (a .left) base end (a .count) room in
+      pz ∙ ap (withFiles (f .files + 1)) (py ∙ ap (withNext (nextNumber f + 1)) (px ∙ sym put))

@@ -1,0 +1,135 @@
+-- The returns of create: its refusals in their order, and the change.
+use Prim.Native.Nat.{ℕ, _+_, _-_, _*_, _≤_, _<_}
+use mathlib.Core.Path.{_≡_, refl, subst}
+use mathlib.Core.Bool.{Bool, true, false, not}
+use mathlib.Core.List.{List}
+use native.Mathlib.Omega.{arith}
+use lib.ListN.{length, drop}
+use borrow.Author.Tests.{eq-eqb, ne-eqb}
+use Rattle.model.specs.Lists.{any}
+use Rattle.model.specs.Bytes.{Bytes}
+use Rattle.model.specs.Facts.{factsOf, dirStart, dirLength, nextNumber, isLocked}
+use Rattle.model.specs.Directory.{padded, cutBlocks, directoryBlocks, directory, named}
+use Rattle.model.specs.Check.{orElse}
+use Rattle.model.specs.Calls.{Does, Fits, nameOf, forkGiven, badName, refuses, knownIn, hasRoom, change, lent, reply}
+use Rattle.model.specs.Calls.Call.{create}
+use Rattle.history.proofs.Answers.{GoodName, good-name}
+use Rattle.directory.specs.Cursor.{Begins}
+use Rattle.entries.specs.Rooms.{HasRoom, Roomy}
+use Rattle.model.specs.declared.VolumeFacts.{VolumeFacts}
+use Rattle.directory.specs.declared.Cursor.{Cursor}
+use Rattle.directory.specs.declared.EntryAt.{EntryAt}
+use Rattle.entries.specs.declared.Room.{Room}
+use Rattle.entries.specs.declared.Room.the-variants.{At, Nothing}
+use Rattle.call_create.specs.Adding.{Adds, withFile}
+use Rattle.files.specs.Told.{toldNumber}
+use Rattle.files.specs.Lookup.{Readable, Found, Missed}
+use Rattle.call_create.proofs.Added.{adds-some}
+use Rattle.files.proofs.Replies.{refuse, serve}
+
+-- ---- the search for room from the directory's first block on
+
+-- what it finds, by its case
+module _ (image : List ℕ) (start left size : ℕ) (s : Room) (h : Roomy image start left size s) where
+  pub room-at : (base end : ℕ) → s ≡ At base end → HasRoom image start left size base end
+  room-at base end p = rw p at h
+
+  pub room-none : s ≡ Nothing → any (hasRoom size) (cutBlocks (left + 1) (drop start image)) ≡ false
+  room-none p = rw p at h
+
+module _ (f : VolumeFacts) (image : List ℕ) (c : Cursor) (b : Begins (dirStart f) (dirLength f) c) (title size : ℕ) (q : size ≡ padded (51 + title)) where
+  pub adds : (base end : ℕ) → HasRoom image (c .base) (c .left) size base end → 1 ≤ title → title ≤ 255 → nextNumber f < 4294967295 → Adds f image title base end
+  adds base end h s m n = record {
+    left = c .left;
+    count = b .left;
+    some = s;
+    most = m;
+    room = subst (λ (k : ℕ). HasRoom image (512 * dirStart f) (c .left) k base end) q (subst (λ (k : ℕ). HasRoom image k (c .left) size base end) (b .base) h);
+    next = n;
+  }
+
+  no-room : any (hasRoom size) (cutBlocks (c .left + 1) (drop (c .base) image)) ≡ false → any (hasRoom (padded (51 + title))) (directoryBlocks f image) ≡ false
+  unfolding directoryBlocks
+  no-room h =
+      let from : any (hasRoom size) (cutBlocks (c .left + 1) (drop (512 * dirStart f) image)) ≡ false
+      = subst (λ (k : ℕ). any (hasRoom size) (cutBlocks (c .left + 1) (drop k image)) ≡ false) (b .base) h in
+      let all : any (hasRoom size) (cutBlocks (dirLength f) (drop (512 * dirStart f) image)) ≡ false
+      = subst (λ (k : ℕ). any (hasRoom size) (cutBlocks k (drop (512 * dirStart f) image)) ≡ false) (b .left) from in
+      subst (λ (k : ℕ). any (hasRoom k) (cutBlocks (dirLength f) (drop (512 * dirStart f) image)) ≡ false) q all
+
+-- ---- the returns
+
+-- 12 is told of a bad name alone
+missed-bad : (t u : Bool) (n : ℕ) → n ≡ orElse t 12 (orElse (not u) 13 0) → n ≡ 12 → t ≡ true
+missed-bad true u n h e = refl
+missed-bad false true n h e = absurd (omega arith)
+missed-bad false false n h e = absurd (omega arith)
+
+-- another number: the name is good and no file has it
+missed-fresh : (t u : Bool) (n : ℕ) → n ≡ orElse t 12 (orElse (not u) 13 0) → (n ≡ 0 → ⊥) → (n ≡ 12 → ⊥) → (t ≡ false) × (u ≡ false)
+missed-fresh true u n h z w = absurd (w h)
+missed-fresh false true n h z w = absurd (z h)
+missed-fresh false false n h z w = (refl, refl)
+
+-- a name that is good and no file has
+pub record Fresh (image name : List ℕ) : Type 0 where
+  pub good : badName name ≡ false
+  pub none : any (named name) (directory image) ≡ false
+
+pub fresh : (image name : List ℕ) (number : ℕ) → Missed image name number → (number ≡ 12 → ⊥) → Fresh image name
+fresh image name number m w =
+    let both = missed-fresh (badName name) (any (named name) (directory image)) number (m .fires) (m .some) w in
+    record { good = both .0; none = both .1 }
+
+pub fresh-title : (image name : List ℕ) → Fresh image name → GoodName name
+fresh-title image name h = good-name name (h .good)
+
+module _ {f : VolumeFacts} {image : List ℕ} (r : Readable f image) (octets : Bytes image)
+    (name finder : List ℕ) (made changed : ℕ) (fits : Fits (create name finder made changed)) where
+  pub create-locked : isLocked f ≡ true → Does (create name finder made changed) image (toldNumber 11) image
+  unfolding refuses knownIn nameOf forkGiven lent
+  create-locked h = let h′ = rw (r .facts) at h in refuse r octets (create name finder made changed) 11 fits (rw h′) (λ z. omega arith)
+
+  module _ (l : isLocked f ≡ false) where
+    pub create-untitled : (number : ℕ) → Missed image name number → number ≡ 12 → Does (create name finder made changed) image (toldNumber 12) image
+    unfolding refuses knownIn nameOf forkGiven lent
+    create-untitled number m e =
+        let l′ = rw (r .facts) at l in
+        let t : badName name ≡ true = missed-bad (badName name) (any (named name) (directory image)) number (m .fires) e in
+        refuse r octets (create name finder made changed) 12 fits (rw (l′, t)) (λ z. omega arith)
+
+    pub create-exists : (place : ℕ) (e : EntryAt) → Found image name place e → Does (create name finder made changed) image (toldNumber 14) image
+    unfolding refuses knownIn nameOf forkGiven lent
+    create-exists place e h =
+        let l′ = rw (r .facts) at l in
+        refuse r octets (create name finder made changed) 14 fits (rw (l′, h .title, h .there .exists)) (λ z. omega arith)
+
+    module _ (new : Fresh image name) where
+      pub create-last : nextNumber f ≡ 4294967295 → Does (create name finder made changed) image (toldNumber 19) image
+      unfolding refuses knownIn nameOf forkGiven lent
+      create-last n =
+          let l′ = rw (r .facts) at l in
+          let n′ = rw (r .facts) at n in
+          refuse r octets (create name finder made changed) 19 fits (rw (l′, new .good, new .none, eq-eqb (nextNumber (factsOf image)) 4294967295 n′)) (λ z. omega arith)
+
+      module _ (n : nextNumber f ≡ 4294967295 → ⊥) where
+        pub create-full : (c : Cursor) → Begins (dirStart f) (dirLength f) c → (size : ℕ) → size ≡ padded (51 + length name)
+            → any (hasRoom size) (cutBlocks (c .left + 1) (drop (c .base) image)) ≡ false → Does (create name finder made changed) image (toldNumber 18) image
+        unfolding refuses knownIn nameOf forkGiven lent
+        create-full c b size q h =
+            let l′ = rw (r .facts) at l in
+            let n′ = rw (r .facts) at n in
+            let h′ = rw (r .facts) at (no-room f image c b (length name) size q h) in
+            refuse r octets (create name finder made changed) 18 fits
+            (rw (l′, new .good, new .none, ne-eqb (nextNumber (factsOf image)) 4294967295 n′, h′)) (λ z. omega arith)
+
+        pub create-served : (base end : ℕ) → Adds f image (length name) base end → (after : List ℕ) → after ≡ withFile f image name finder made changed
+            → Does (create name finder made changed) image (toldNumber 0) after
+        unfolding refuses knownIn nameOf forkGiven reply change
+        create-served base end a after p =
+            let l′ = rw (r .facts) at l in
+            let n′ = rw (r .facts) at n in
+            let h′ = rw (r .facts) at (adds-some r (length name) base end a) in
+            let p′ = rw (r .facts) at p in
+            rw p′ (serve r octets (create name finder made changed) fits
+            (rw (l′, new .good, new .none, ne-eqb (nextNumber (factsOf image)) 4294967295 n′, h′)))

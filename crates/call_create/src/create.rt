@@ -1,0 +1,48 @@
+// create: all that may refuse it comes before the change.
+ghost use Rattle.model.specs.Calls.{Call, Does};
+ghost use Rattle.files.specs.Lookup.{Readable};
+ghost use Rattle.files.specs.Told.{toldNumber};
+use directory::EntryAt;
+use entries::Room;
+use files::Named;
+use files::first_entry;
+use files::is_locked;
+use files::lookup;
+use model::VolumeFacts;
+
+// On an accepted image, whose facts are f.
+pub fn serve_create(
+    image: &mut [u8],
+    f: VolumeFacts,
+    name: &[u8],
+    finder: &[u8; 16],
+    created: u32,
+    changed: u32,
+) -> u8
+    requires { ⌜ Readable f (now image) ⌝ }
+    ensures { λ r. ⌜ Does (Call.create (now (name .entry)) (now (finder .entry)) created changed) (now (image .entry)) (toldNumber r) (now (image .exit)) ⌝ }
+{
+    crate::add::whole(finder);
+    if is_locked(f) {
+        return 11;
+    }
+    match lookup(image, f, name) {
+        Named::At(_, _) => 14,
+        Named::Refused(number) => {
+            if number == 12 {
+                return 12;
+            }
+            if f.next_number == VolumeFacts::LAST_NUMBER {
+                return 19;
+            }
+            let size = EntryAt::TITLE_AT + name.len();
+            match entries::find_room(image, first_entry(f), size + size % 2) {
+                Room::Nothing => 18,
+                Room::At(base, end) => {
+                    crate::add::add_file(image, f, base, end, name, finder, created, changed);
+                    0
+                }
+            }
+        }
+    }
+}

@@ -1,0 +1,47 @@
+// A fork grown by a write.
+ghost use mathlib.Core.Path.{_≡_};
+ghost use Prim.Native.Nat.{_≤_};
+ghost use lib.ListN.{length};
+ghost use Rattle.model.specs.Facts.{freeCount};
+ghost use Rattle.forks.specs.Growth.{newBlocks};
+ghost use Rattle.files.specs.Leaves.{Written};
+ghost use Rattle.files.specs.Lookup.{HeldFork};
+use directory::EntryAt;
+use entries::put_free;
+use forks::fill_fork;
+use forks::larger;
+use model::AllocationBlock;
+use model::Fork;
+use model::ForkFacts;
+use model::VolumeFacts;
+
+// Joins the new blocks that the fork g needs, stores the bytes from the offset on, then the fork's fields and the free count.
+pub fn grow_fork(
+    image: &mut [u8],
+    f: VolumeFacts,
+    e: EntryAt,
+    fork: Fork,
+    g: ForkFacts,
+    need: u16,
+    offset: usize,
+    bytes: &[u8],
+    changed: u32,
+)
+    requires { ⌜ HeldFork f (now image) e fork g ⌝ }
+    requires { ⌜ (offset ≤ g .logical) × (need ≡ newBlocks f g offset (length (now bytes))) × (need ≤ freeCount f) ⌝ }
+    ensures { λ _. ⌜ Written f (now (image .entry)) e fork g offset (now (bytes .entry)) changed (now (image .exit)) ⌝ }
+{
+    let a = f.block_size;
+    let has = (g.physical / a) as u16;
+    let start = blockmap::extend(image, f.allocation_blocks, g.start, has, need);
+    let blocks = has + need;
+    let first = start.0;
+    fill_fork(image, f.allocation_start, a, start, blocks, offset, bytes);
+    let after = ForkFacts {
+        start: AllocationBlock(first),
+        logical: larger(g.logical as usize, offset + bytes.len()) as u32,
+        physical: blocks as u32 * a,
+    };
+    entries::store_fork(image, e, fork, after, changed);
+    put_free(image, f.free_blocks - need);
+}

@@ -1,0 +1,48 @@
+// write: all that may refuse it comes before the change.
+ghost use Rattle.model.specs.Calls.{Call, Does};
+ghost use Rattle.files.specs.Lookup.{Readable};
+ghost use Rattle.files.specs.Told.{toldNumber};
+use files::Named;
+use files::file_locked;
+use files::is_locked;
+use files::lookup;
+use forks::new_blocks;
+use model::Fork;
+use model::VolumeFacts;
+
+// On an accepted image, whose facts are f.
+pub fn serve_write(
+    image: &mut [u8],
+    f: VolumeFacts,
+    name: &[u8],
+    fork: Fork,
+    offset: u64,
+    bytes: &[u8],
+    changed: u32,
+) -> u8
+    requires { ⌜ Readable f (now image) ⌝ }
+    ensures { λ r. ⌜ Does (Call.write (now (name .entry)) fork offset (now (bytes .entry)) changed) (now (image .entry)) (toldNumber r) (now (image .exit)) ⌝ }
+{
+    if is_locked(f) {
+        return 11;
+    }
+    match lookup(image, f, name) {
+        Named::Refused(number) => number,
+        Named::At(_, e) => {
+            if file_locked(image, e) {
+                return 15;
+            }
+            let g = directory::read_fork(image, e, fork);
+            if (g.logical as u64) < offset {
+                return 16;
+            }
+            let at = offset as usize;
+            let new = new_blocks(f, g, at, bytes.len());
+            if new.number != 0 {
+                return new.number;
+            }
+            crate::grow::grow_fork(image, f, e, fork, g, new.blocks, at, bytes, changed);
+            0
+        }
+    }
+}

@@ -1,0 +1,126 @@
+-- `count_entries` meets its contract. The loop's invariant: check 6 fires for the entries from c on where it does for all, those
+-- with the ones counted are all, and so it is with their file numbers. Assumes nothing.
+use Prim.Native.Nat.{ℕ, _+_, _≤_}
+use mathlib.Core.Path.{_≡_, refl, sym, ap, _∙_}
+use mathlib.Core.Bool.{_&&_, and-true}
+use mathlib.Core.List.{List, _∷_}
+use mathlib.Core.Logic.{⊎-elim}
+use native.Mathlib.Omega.{arith}
+use denote.Ref.{now}
+use lib.ListN.{length}
+use borrow.Author.Tests.{not-true, not-false}
+use Rattle.model.specs.Lists.{every}
+use Rattle.model.specs.Check.{fires6, goodNumber}
+use Rattle.directory.specs.Cursor.{restOf, Fits, ahead, bytesAt, Moves}
+use Rattle.directory.proofs.Each.{moved, ended, failed, six-more, six-none, six-fails, differs}
+use Rattle.directory.proofs.Tests.{every-pass, every-fail}
+use borrow.Author.Needs.{needs}
+use Rattle.checks.proofs.tally.count_entries.Statement.{statement}
+use Rattle.checks.proofs.tally.count_entries.Tie as tie
+
+abbrev Inv-loop : tie.InvT-loop
+Inv-loop image next c₀ count₀ numbered₀ c count numbered =
+    Fits image c × (count + ahead c ≤ ahead c₀)
+    × (fires6 (restOf image c₀) ≡ fires6 (restOf image c)) × (length (restOf image c₀) ≡ count + length (restOf image c))
+    × (every (goodNumber next) (restOf image c₀) ≡ (numbered && every (goodNumber next) (restOf image c)))
+
+abbrev μ-loop : tie.MeasureT-loop
+μ-loop image next c₀ count₀ numbered₀ c count numbered = ahead c
+
+-- the step to the next entry, its bytes, and the entries behind it
+step : (c : tie.After-e Inv-loop μ-loop) → Moves (now (c .before .before .before .before .before .args .image)) (c .before .before .before .loop .c) (c .e .given .0 .0) (c .e .given .0 .1 .0)
+step c = let n = c .before .before in moved (now (n .before .before .before .args .image)) (n .before .loop .c) (n .next .result) (n .next .ensures) _ _ (c .e .given .1)
+
+abbrev bytes : tie.After-e Inv-loop μ-loop → List ℕ
+bytes c = bytesAt (now (c .before .before .before .before .before .args .image)) (c .e .given .0 .0)
+
+abbrev rest : tie.After-e Inv-loop μ-loop → List (List ℕ)
+rest c = restOf (now (c .before .before .before .before .before .args .image)) (c .e .given .0 .1 .0)
+
+-- the file numbers with the next entry in front
+here : (c : tie.After-e Inv-loop μ-loop) → let l = c .before .before .before in
+    every (goodNumber (l .before .before .args .next)) (restOf (now (l .before .before .args .image)) (l .before .before .args .from))
+    ≡ (l .loop .numbered && every (goodNumber (l .before .before .args .next)) (bytes c ∷ rest c))
+here c =
+    let l = c .before .before .before in
+    l .loop .inv .4 ∙ ap (λ (es : List (List ℕ)). l .loop .numbered && every (goodNumber (l .before .before .args .next)) es) (step c .rest)
+
+loop-holds : tie.Need-loop-holds Inv-loop μ-loop
+loop-holds c = (c .before .pre, omega arith, refl, omega arith, refl)
+
+next-requires : tie.Need-next-requires Inv-loop μ-loop
+next-requires c κs = c .loop .inv .0
+
+enum-known-e : tie.Need-enum-known-e Inv-loop μ-loop
+enum-known-e c = search needs
+
+good-number-requires : tie.Need-good-number-requires Inv-loop μ-loop
+good-number-requires c κs = step (c .before) .stands
+
+add-count : tie.Need-add-count Inv-loop μ-loop
+add-count c = omega (arith, step (c .before .before .before))
+
+loop-less : tie.Need-loop-less Inv-loop μ-loop
+loop-less c = omega (arith, step (c .before .before .before))
+
+loop-again : tie.Need-loop-again Inv-loop μ-loop
+loop-again c =
+    let k = c .before .before .before in
+    let l = k .before .before .before in
+    let a = l .before .before .args in
+    let m = step k in
+    let long = ap (length {A = List ℕ}) (m .rest) in
+    let six = six-more (now (a .image)) (l .loop .c) (k .e .given .0 .0) (k .e .given .0 .1 .0) m in
+    let good = sym (c .before .good-number .ensures) in
+    let numbers =
+    ⊎-elim (λ w. every-fail (goodNumber (a .next)) (bytes k) (rest k) (l .loop .numbered) (c .if1 .numbered) (good ∙ not-true _ (w .0 .taken)) (w .1))
+    (λ w. every-pass (goodNumber (a .next)) (bytes k) (rest k) (l .loop .numbered) (c .if1 .numbered) (good ∙ not-false _ (w .0 .left)) (w .1))
+    (c .if1 .came)
+    in
+    (m .fits, omega arith, l .loop .inv .2 ∙ six, omega arith, here k ∙ numbers)
+
+enum-told : tie.Need-enum-told Inv-loop μ-loop
+enum-told c = search needs
+
+returns : tie.Need-returns Inv-loop μ-loop
+unfolding every
+returns c =
+    let n = c .before .before in
+    let l = n .before .loop in
+    let a = n .before .before .before .args in
+    let none = ended (now (a .image)) (l .c) (n .next .result) (n .next .ensures) (c .enum-told .given .1) in
+    let long = ap (length {A = List ℕ}) none in
+    record {
+      six = sym (l .inv .2 ∙ six-none (now (a .image)) (l .c) none);
+      counted = λ _. omega arith;
+      tested = λ _. sym (l .inv .4 ∙ ap (λ (es : List (List ℕ)). l .numbered && every (goodNumber (a .next)) es) none ∙ and-true (l .numbered));
+    }
+
+enum-told-2 : tie.Need-enum-told-2 Inv-loop μ-loop
+enum-told-2 c = search needs
+
+returns-2 : tie.Need-returns-2 Inv-loop μ-loop
+returns-2 c =
+    let n = c .before .before in
+    let l = n .before .loop in
+    let image = now (n .before .before .before .args .image) in
+    let fails = failed image (l .c) (n .next .result) (n .next .ensures) (c .enum-told2 .given .1) in
+    record { six = sym (l .inv .2 ∙ six-fails image (l .c) fails); counted = λ h. absurd (differs h); tested = λ h. absurd (differs h) }
+
+pub count-entries-spec : {M : Type 1} → statement M
+count-entries-spec =
+    tie.close
+    (tie.spec
+    Inv-loop
+    μ-loop
+    loop-holds
+    next-requires
+    enum-known-e
+    good-number-requires
+    add-count
+    loop-less
+    loop-again
+    enum-told
+    returns
+    enum-told-2
+    returns-2)

@@ -1,0 +1,75 @@
+// The entry of a name, and the entry at a place.
+ghost use mathlib.Core.Path.{_≡_};
+ghost use Rattle.model.specs.Directory.{named};
+ghost use Rattle.directory.specs.Cursor.{restOf, bytesAt, Stands, Passes};
+ghost use Rattle.directory.specs.Search.{Finds, Located, Gives};
+use crate::Cursor;
+use crate::EntryAt;
+use crate::Found;
+use crate::Step;
+use crate::names::same_name;
+
+// Whether the entry has the name.
+fn has_name(image: &[u8], e: EntryAt, name: &[u8]) -> bool
+    requires { ⌜ Stands (now image) e ⌝ }
+    ensures { λ r. ⌜ r ≡ named (now (name .entry)) (bytesAt (now (image .entry)) e) ⌝ }
+{
+    let from = e.start + EntryAt::TITLE_AT;
+    let to = from + e.name_length;
+    same_name(name, &image[from..to])
+}
+
+// The first entry of the name, with its place counted from the cursor, and where in the directory it stands.
+pub fn locate(image: &[u8], from: Cursor, name: &[u8]) -> Found
+    requires { ⌜ Passes (now image) from ⌝ }
+    ensures { λ r. ⌜ Finds (now (image .entry)) (now (name .entry)) (restOf (now (image .entry)) from) r ⌝ }
+    ensures { λ r. ⌜ Located (now (image .entry)) from r ⌝ }
+{
+    let mut c = from;
+    let mut place: usize = 0;
+    loop {
+        match c.next(image) {
+            Step::Entry(e, behind) => {
+                if has_name(image, e, name) {
+                    return Found::At(place, e);
+                }
+                place += 1;
+                c = behind;
+            }
+            Step::End => {
+                return Found::Nothing;
+            }
+            // A directory that passed check 6 has none.
+            Step::Bad => {
+                return Found::Nothing;
+            }
+        }
+    }
+}
+
+// The entry at a place counted from the cursor.
+pub fn entry_at(image: &[u8], from: Cursor, place: u64) -> Found
+    requires { ⌜ Passes (now image) from ⌝ }
+    ensures { λ r. ⌜ Gives (now (image .entry)) (restOf (now (image .entry)) from) place r ⌝ }
+{
+    let mut c = from;
+    let mut due = place;
+    loop {
+        match c.next(image) {
+            Step::Entry(e, behind) => {
+                if due == 0 {
+                    return Found::At(place as usize, e);
+                }
+                due -= 1;
+                c = behind;
+            }
+            Step::End => {
+                return Found::Nothing;
+            }
+            // A directory that passed check 6 has none.
+            Step::Bad => {
+                return Found::Nothing;
+            }
+        }
+    }
+}

@@ -1,0 +1,123 @@
+-- Laws of the search for room, one directory block after another.
+use Prim.Native.Nat.{ℕ, suc, _+_, _-_, _*_, _≤_, _<_}
+use mathlib.Core.Path.{_≡_, refl, sym, ap, _∙_}
+use mathlib.Core.Bool.{true, false}
+use mathlib.Core.List.{List, [], _∷_, _++_}
+use native.Mathlib.Omega.{arith}
+use lib.ListN.{length, take, drop}
+use lib.Seq.{paste, drop-drop, take-take, take-all}
+use borrow.Author.Tests.{not-false, le-leb, lt-leb}
+use Rattle.model.specs.Lists.{every, any, flat}
+use Rattle.model.specs.Bytes.{zeros, part}
+use Rattle.model.specs.Facts.{dirStart, dirLength}
+use Rattle.model.specs.Directory.{readAt, entries, readEnd, cutBlocks, directoryBlocks, listing}
+use Rattle.model.specs.Check.{goodEntry, fires6}
+use Rattle.model.specs.Calls.{filled, hasRoom, placed, withDirectory}
+use Rattle.model.specs.declared.VolumeFacts.{VolumeFacts}
+use Rattle.model.proofs.Lists.{and-true, or-false, any-append, every-append}
+use Rattle.laws.proofs.Block.{sound, added-reads}
+use Rattle.laws.proofs.Blocks.{Cleans, cut-count, clean-parts, listing-append}
+use Rattle.laws.proofs.Places.{added-bytes}
+use Rattle.laws.proofs.Image.{one-block}
+use Rattle.directory.specs.declared.Cursor.{Cursor}
+use Rattle.directory.specs.Cursor.{blockOf, restOf, Passes}
+use Rattle.entries.specs.Blocks.{Block}
+use Rattle.entries.specs.Rooms.{HasRoom}
+use Rattle.entries.proofs.Blocks.{block-clean, cleared-behind}
+use Rattle.entries.proofs.Located.{cut-at}
+
+-- block i of a directory that passes check 6
+module _ (image : List ℕ) (c : Cursor) (p : Passes image c) (z : c .at ≡ 0) where
+  rest-blocks : restOf image c ≡ listing (cutBlocks (c .left + 1) (drop (c .base) image))
+  unfolding restOf listing flat entries cutBlocks
+  rest-blocks =
+      let more = listing (cutBlocks (c .left) (drop (c .base + 512) image)) in
+      let one : c .left + 1 ≡ suc (c .left) = omega arith in
+      ap (λ (i : ℕ). readAt 10 (blockOf image c) i ++ more) z
+      ∙ rw (one, drop-drop 512 (c .base) image) refl
+
+  pub block-of : (i : ℕ) → i ≤ c .left → Block image (c .base + 512 * i)
+  unfolding fires6 listing flat every
+  block-of i h =
+      let d = drop (c .base) image in
+      let x = cutBlocks i d in
+      let y = cutBlocks (c .left + 1 - (i + 1)) (drop (512 * (i + 1)) d) in
+      let all : every goodEntry (listing (x ++ (part (512 * i) 512 d ∷ y))) ≡ true
+      = ap (λ (bs : List (List ℕ)). every goodEntry (listing bs)) (sym (cut-at i (c .left + 1) d (omega arith))) ∙ ap (every goodEntry) (sym rest-blocks) ∙ not-false _ (p .good) in
+      let both = and-true (every goodEntry (listing x)) (every goodEntry (listing (part (512 * i) 512 d ∷ y)))
+      (sym (every-append goodEntry (listing x) (listing (part (512 * i) 512 d ∷ y))) ∙ ap (every goodEntry) (sym (listing-append x (part (512 * i) 512 d ∷ y))) ∙ all) in
+      let own = and-true (every goodEntry (entries (part (512 * i) 512 d))) (every goodEntry (listing y))
+      (sym (every-append goodEntry (entries (part (512 * i) 512 d)) (listing y)) ∙ both .1) in
+      record {
+        within = omega (arith, p .fits .blocks);
+        good = rw (← drop-drop (512 * i) (c .base) image, own .0);
+      }
+
+-- room or none, by the place where the reading ends
+module _ (size : ℕ) (b : List ℕ) where
+  pub room-is : readEnd b + size ≤ 512 → hasRoom size b ≡ true
+  unfolding hasRoom
+  room-is h = le-leb (readEnd b + size) 512 h
+
+  pub room-not : 512 < readEnd b + size → hasRoom size b ≡ false
+  unfolding hasRoom
+  room-not h = lt-leb (readEnd b + size) 512 h
+
+-- one block more without room
+pub none-more : (size : ℕ) (image : List ℕ) (first i : ℕ) → any (hasRoom size) (cutBlocks i (drop first image)) ≡ false
+    → hasRoom size (part (first + 512 * i) 512 image) ≡ false → any (hasRoom size) (cutBlocks (i + 1) (drop first image)) ≡ false
+unfolding any cutBlocks
+none-more size image first i h r =
+    let d = drop first image in
+    let n : i + 1 - (i + 1) ≡ 0 = omega arith in
+    let own : hasRoom size (part (512 * i) 512 d) ≡ false = rw (drop-drop (512 * i) first image) r in
+    ap (any (hasRoom size)) (cut-at i (i + 1) d (omega arith))
+    ∙ rw n (any-append (hasRoom size) (cutBlocks i d) (part (512 * i) 512 d ∷ []) ∙ rw (h, own))
+
+-- ---- the entry put there
+
+-- e stored behind the block's entries, and zeros behind it
+pub added-stores : (image : List ℕ) (base : ℕ) → Block image base → (e : List ℕ) → readEnd (part base 512 image) + length e ≤ 512
+    → (s z : ℕ) → s ≡ base + readEnd (part base 512 image) → z ≡ base + 512 - (s + length e)
+    → (x y : List ℕ) → x ≡ paste image s e (length e) → y ≡ paste x (s + length e) (zeros z) z
+    → y ≡ paste image base (filled (entries (part base 512 image) ++ (e ∷ []))) 512
+added-stores image base k e room s z hs hz x y px py =
+    let b = part base 512 image in
+    let kw = k .within in
+    let ahead : s - base ≡ readEnd b = omega arith in
+    let rest : 512 - (readEnd b + length e) ≡ z = omega arith in
+    let first : take (readEnd b) b ≡ part base (readEnd b) image = take-take (readEnd b) 512 (drop base image) (omega arith) in
+    let all : take (length e) e ≡ e = take-all (length e) e (omega arith) in
+    let whole : filled (entries b ++ (e ∷ [])) ≡ part base (s - base) image ++ (take (length e) e ++ zeros z)
+    = added-bytes e b (block-clean image base k) ∙ rw (first, rest, ahead, all) in
+    py ∙ ap (λ (t : List ℕ). paste t (s + length e) (zeros z) z) px
+    ∙ cleared-behind image base s (length e) z e (omega arith) (omega arith) (omega arith) (omega arith)
+    ∙ ap (λ (t : List ℕ). paste image base t 512) (sym whole)
+
+placed-at : (e : List ℕ) (x : List (List ℕ)) (b : List ℕ) (y : List (List ℕ)) → any (hasRoom (length e)) x ≡ false → hasRoom (length e) b ≡ true
+    → placed e (x ++ (b ∷ y)) ≡ x ++ (filled (entries b ++ (e ∷ [])) ∷ y)
+unfolding any placed
+placed-at e [] b y u v = rw (v, placed) refl
+placed-at e (c ∷ x) b y u v =
+    let s = or-false (hasRoom (length e) c) (any (hasRoom (length e)) x) u in
+    rw (s .0, placed) (ap (λ (r : List (List ℕ)). c ∷ r) (placed-at e x b y (s .1) v))
+
+-- the model's change is there
+pub room-placed : (f : VolumeFacts) (image : List ℕ) → 512 * dirStart f + 512 * dirLength f ≤ length image → Cleans (directoryBlocks f image)
+    → (e : List ℕ) → sound e ≡ true → (left base end : ℕ) → left + 1 ≡ dirLength f → HasRoom image (512 * dirStart f) left (length e) base end
+    → withDirectory f image (placed e (directoryBlocks f image)) ≡ paste image base (filled (entries (part base 512 image) ++ (e ∷ []))) 512
+unfolding directoryBlocks Cleans
+room-placed f image within clean e so left base end n r =
+    let d = drop (512 * dirStart f) image in
+    let x = cutBlocks (r .index) d in
+    let b = part base 512 image in
+    let y = cutBlocks (dirLength f - (r .index + 1)) (drop (512 * (r .index + 1)) d) in
+    let own : part (512 * r .index) 512 d ≡ b = ap (take 512) (drop-drop (512 * r .index) (512 * dirStart f) image) ∙ ap (λ (p : ℕ). part p 512 image) (sym (r .block)) in
+    let whole : directoryBlocks f image ≡ x ++ (b ∷ y) = cut-at (r .index) (dirLength f) d (omega (arith, r .within)) ∙ ap (λ (t : List ℕ). x ++ (t ∷ y)) own in
+    let parts : Cleans (x ++ (b ∷ y)) = rw whole at clean in
+    let long = added-reads e b (clean-parts x (b ∷ y) parts .1 .0) so (r .room) .clean .long in
+    let at : 512 * (dirStart f + length x) ≡ base = omega (arith, cut-count (r .index) d, r .block) in
+    ap (λ (bs : List (List ℕ)). withDirectory f image (placed e bs)) whole
+    ∙ ap (withDirectory f image) (placed-at e x b y (r .none) (r .room))
+    ∙ one-block f image within x b y whole (filled (entries b ++ (e ∷ []))) long
+    ∙ ap (λ (p : ℕ). paste image p (filled (entries b ++ (e ∷ []))) 512) at

@@ -1,0 +1,79 @@
+// Room for a new entry, and the entry put there.
+ghost use mathlib.Core.Path.{_≡_};
+ghost use mathlib.Core.List.{[], _∷_, _++_};
+ghost use Prim.Native.Nat.{_+_, _≤_};
+ghost use lib.ListN.{length};
+ghost use lib.Seq.{paste};
+ghost use Rattle.model.specs.Bytes.{part};
+ghost use Rattle.model.specs.Directory.{padded, entries, readEnd};
+ghost use Rattle.model.specs.Calls.{newEntry, filled};
+ghost use Rattle.directory.specs.Cursor.{Passes};
+ghost use Rattle.entries.specs.Blocks.{Block};
+ghost use Rattle.entries.specs.Rooms.{Roomy};
+use crate::Room;
+use crate::numbers::put16_at;
+use crate::numbers::put32_at;
+use crate::remove::clear;
+use crate::remove::read_end;
+use directory::Cursor;
+use directory::EntryAt;
+
+// The first directory block, from a cursor at a block's start on, that has room for so many bytes.
+pub fn find_room(image: &[u8], from: Cursor, size: usize) -> Room
+    requires { ⌜ Passes (now image) from ⌝ }
+    requires { ⌜ from .at ≡ 0 ⌝ }
+    requires { ⌜ size ≤ 512 ⌝ }
+    ensures { λ r. ⌜ Roomy (now (image .entry)) (from .base) (from .left) size r ⌝ }
+{
+    let mut i = 0;
+    while i <= from.left {
+        let base = from.base + Cursor::BLOCK * i;
+        let end = read_end(image, base);
+        if end + size <= Cursor::BLOCK {
+            return Room::At(base, end);
+        }
+        i += 1;
+    }
+    Room::Nothing
+}
+
+// Stores bytes from a place on.
+fn put_bytes(image: &mut [u8], at: usize, bytes: &[u8])
+    requires { ⌜ at + length (now bytes) ≤ length (now image) ⌝ }
+    ensures { λ _. ⌜ now (image .exit) ≡ paste (now (image .entry)) at (now (bytes .entry)) (length (now (bytes .entry))) ⌝ }
+{
+    let mut i = 0;
+    while i < bytes.len() {
+        image[at + i] = bytes[i];
+        i += 1;
+    }
+}
+
+// Puts the entry of an empty file behind the last one of the directory block at byte base, whose reading ends at place end. Zeros
+// follow it to the block's end.
+pub fn insert_entry(
+    image: &mut [u8],
+    base: usize,
+    end: usize,
+    number: u32,
+    name: &[u8],
+    finder: &[u8; 16],
+    created: u32,
+    changed: u32,
+)
+    requires { ⌜ Block (now image) base ⌝ }
+    requires { ⌜ (end ≡ readEnd (part base 512 (now image))) × (end + padded (51 + length (now name)) ≤ 512) × (length (now name) ≤ 255) ⌝ }
+    ensures { λ _. ⌜ now (image .exit) ≡ paste (now (image .entry)) base (filled (entries (part base 512 (now (image .entry))) ++ (newEntry number (now (name .entry)) (now (finder .entry)) created changed ∷ []))) 512 ⌝ }
+{
+    let at = base + end;
+    put16_at(image, at + EntryAt::FLAGS_AT, 0x8000);
+    put_bytes(image, at + EntryAt::FINDER_AT, finder);
+    put32_at(image, at + EntryAt::NUMBER_AT, number);
+    clear(image, at + EntryAt::DATA_AT, 20);
+    put32_at(image, at + EntryAt::CREATED_AT, created);
+    put32_at(image, at + EntryAt::CHANGED_AT, changed);
+    image[at + EntryAt::NAME_AT] = name.len() as u8;
+    put_bytes(image, at + EntryAt::TITLE_AT, name);
+    let behind = at + EntryAt::TITLE_AT + name.len();
+    clear(image, behind, base + Cursor::BLOCK - behind);
+}

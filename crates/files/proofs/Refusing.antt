@@ -1,0 +1,100 @@
+-- The returns of the calls that change the file of a name, write, cut and delete: the refusals that they begin with, their own
+-- behind those, and the change.
+use Prim.Native.Nat.{ℕ}
+use mathlib.Core.Path.{_≡_, refl, sym, ap, subst, _∙_}
+use mathlib.Core.Bool.{Bool, true, false, not}
+use mathlib.Core.List.{List, []}
+use native.Mathlib.Omega.{arith}
+use lib.ListN.{length}
+use lib.Dec.{ltb}
+use Rattle.model.specs.Lists.{any}
+use Rattle.model.specs.Bytes.{byte, Bytes}
+use Rattle.model.specs.Facts.{factsOf, A, freeCount, isLocked}
+use Rattle.model.specs.Directory.{directory, forkOf, flagsLock, blockCount, named}
+use Rattle.model.specs.Check.{orElse}
+use Rattle.model.specs.Calls.{Call, Does, Fits, nameOf, forkGiven, badName, grown, needed, refuses, entryNamed, knownIn, change, only, reply, lent}
+use Rattle.model.specs.Calls.Call.{write, cut, delete}
+use Rattle.directory.specs.Cursor.{bytesAt}
+use Rattle.model.specs.declared.VolumeFacts.{VolumeFacts}
+use Rattle.model.specs.declared.Fork.{Fork}
+use Rattle.directory.specs.declared.EntryAt.{EntryAt}
+use Rattle.files.specs.Told.{toldNumber}
+use Rattle.files.specs.Lookup.{Readable, Found, Missed}
+use Rattle.files.proofs.Forks.{named-bytes}
+use Rattle.files.proofs.Replies.{fires-before, refuse, serve}
+
+-- 11, 12, 13 and 15, then the rest
+abbrev pub begins : List ℕ → List ℕ → ℕ → ℕ
+begins image name rest =
+    orElse (isLocked (factsOf image)) 11 (orElse (badName name) 12 (orElse (not (any (named name) (directory image))) 13
+    (orElse (flagsLock (byte (entryNamed name image) 0)) 15 rest)))
+
+-- the call's refusals begin so, and it tells nothing but its number
+pub record Changing (call : Call) (image name : List ℕ) (rest : ℕ) : Type 0 where
+  pub own : refuses call (knownIn image (nameOf call) (forkGiven call)) ≡ begins image name rest
+  pub lends : lent call ≡ []
+  pub tells : reply call image ≡ only 0 []
+
+-- 16, 17 or 0
+abbrev pub behindOffset : List ℕ → List ℕ → Fork → ℕ → List ℕ → ℕ
+behindOffset image name fork offset bytes =
+    let f = factsOf image in
+    let g = forkOf fork (entryNamed name image) in
+    orElse (ltb (g .logical) offset) 16 (orElse (ltb (freeCount f) (needed (A f) (grown (g .logical) offset (length bytes)) (blockCount (A f) g))) 17 0)
+
+module _ (image name : List ℕ) where
+  pub write-changing : (fork : Fork) (offset : ℕ) (bytes : List ℕ) (changed : ℕ)
+      → Changing (write name fork offset bytes changed) image name (behindOffset image name fork offset bytes)
+  unfolding refuses knownIn nameOf forkGiven lent reply
+  write-changing fork offset bytes changed = record { own = refl; lends = refl; tells = refl }
+
+  pub cut-changing : (fork : Fork) (size changed : ℕ)
+      → Changing (cut name fork size changed) image name (orElse (ltb (forkOf fork (entryNamed name image) .logical) size) 16 0)
+  unfolding refuses knownIn nameOf forkGiven lent reply
+  cut-changing fork size changed = record { own = refl; lends = refl; tells = refl }
+
+  pub delete-changing : Changing (delete name) image name 0
+  unfolding refuses knownIn nameOf forkGiven lent reply
+  delete-changing = record { own = refl; lends = refl; tells = refl }
+
+module _ {f : VolumeFacts} {image : List ℕ} (r : Readable f image) (octets : Bytes image)
+    {call : Call} {name : List ℕ} {rest : ℕ} (c : Changing call image name rest) (fits : Fits call) where
+  -- refused by n
+  stops : (n : ℕ) → n ≡ begins image name rest → (n ≡ 0 → ⊥) → Does call image (toldNumber n) image
+  stops n h z = subst (λ (l : List ℕ). Does call image (only n l) image) (c .lends) (refuse r octets call n fits (h ∙ sym (c .own)) z)
+
+  locked-in : (b : Bool) → isLocked f ≡ b → isLocked (factsOf image) ≡ b
+  locked-in b h = ap isLocked (sym (r .facts)) ∙ h
+
+  pub refused-11 : isLocked f ≡ true → Does call image (toldNumber 11) image
+  refused-11 h = stops 11 (rw (locked-in true h)) (λ z. omega arith)
+
+  module _ (unlocked : isLocked f ≡ false) where
+    -- 12 or 13
+    pub refused-name : (number : ℕ) → Missed image name number → Does call image (toldNumber number) image
+    refused-name number h =
+        let none = not (any (named name) (directory image)) in
+        let rest′ = orElse (flagsLock (byte (entryNamed name image) 0)) 15 rest in
+        let later : number ≡ orElse (badName name) 12 (orElse none 13 rest′) =
+        h .fires ∙ fires-before (badName name) none rest′ (λ e. h .some (h .fires ∙ e)) in
+        stops number (rw (locked-in false unlocked) later) (h .some)
+
+    module _ (place : ℕ) (e : EntryAt) (h : Found image name place e) where
+      file-in : (b : Bool) → flagsLock (byte (bytesAt image e) 0) ≡ b → flagsLock (byte (entryNamed name image) 0) ≡ b
+      file-in b l = ap (λ (x : List ℕ). flagsLock (byte x 0)) (sym (named-bytes r h)) ∙ l
+
+      pub refused-15 : flagsLock (byte (bytesAt image e) 0) ≡ true → Does call image (toldNumber 15) image
+      refused-15 l = stops 15 (rw (locked-in false unlocked, h .title, h .there .exists, file-in true l)) (λ z. omega arith)
+
+      module _ (writable : flagsLock (byte (bytesAt image e) 0) ≡ false) where
+        past-15 : begins image name rest ≡ rest
+        past-15 = rw (locked-in false unlocked, h .title, h .there .exists, file-in false writable)
+
+        -- 16 or 17
+        pub refused-own : (n : ℕ) → rest ≡ n → (n ≡ 0 → ⊥) → Does call image (toldNumber n) image
+        refused-own n q z = stops n (sym (past-15 ∙ q)) z
+
+        pub done : rest ≡ 0 → (left : List ℕ) → left ≡ change call image → Does call image (toldNumber 0) left
+        done q left l =
+            subst (λ (x : List ℕ). Does call image (only 0 []) x) (sym l)
+            (subst (λ x. Does call image x (change call image)) (c .tells) (serve r octets call fits (c .own ∙ past-15 ∙ q)))

@@ -1,0 +1,70 @@
+// The blocks that a fork needs. No sum wraps, whatever is asked.
+ghost use mathlib.Core.Path.{_≡_};
+ghost use Prim.Native.Nat.{_+_, _≤_, max};
+ghost use Rattle.model.specs.Calls.{fewest};
+ghost use Rattle.forks.specs.Growth.{Grows};
+use crate::NewBlocks;
+use model::ForkFacts;
+use model::VolumeFacts;
+
+// So many bytes fit on no volume. Of fewer, no sum wraps.
+const TOO_MANY: usize = 0x4000_0000_0000_0000;
+
+pub fn larger(a: usize, b: usize) -> usize
+    ensures { λ r. ⌜ r ≡ max a b ⌝ }
+{
+    if a < b {
+        return b;
+    }
+    a
+}
+
+fn blocks_for(n: usize, a: usize) -> usize
+    requires { ⌜ (1 ≤ a) × (n + a ≤ 18446744073709551615) ⌝ }
+    ensures { λ r. ⌜ r ≡ fewest n a ⌝ }
+{
+    (n + (a - 1)) / a
+}
+
+// The fewest blocks of a bytes that hold n bytes.
+pub fn fewest_blocks(n: u32, a: u32) -> u32
+    requires { ⌜ 512 ≤ a ⌝ }
+    ensures { λ r. ⌜ r ≡ fewest n a ⌝ }
+{
+    let blocks = blocks_for(n as usize, a as usize);
+    blocks as u32
+}
+
+// The new blocks that a write of count bytes at the offset needs, or 17 where they exceed those free.
+pub fn new_blocks(f: VolumeFacts, g: ForkFacts, offset: usize, count: usize) -> NewBlocks
+    requires { ⌜ (512 ≤ f .«block_size») × (f .«block_size» ≤ 32768) × (offset ≤ g .logical) ⌝ }
+    ensures { λ r. ⌜ Grows f g offset count r ⌝ }
+{
+    if TOO_MANY <= count {
+        return NewBlocks {
+            number: 17,
+            blocks: 0,
+        };
+    }
+    let a = f.block_size as usize;
+    let has = g.physical as usize / a;
+    let size = larger(g.logical as usize, offset + count);
+    let due = blocks_for(size, a);
+    if due <= has {
+        return NewBlocks {
+            number: 0,
+            blocks: 0,
+        };
+    }
+    let need = due - has;
+    if (f.free_blocks as usize) < need {
+        return NewBlocks {
+            number: 17,
+            blocks: 0,
+        };
+    }
+    NewBlocks {
+        number: 0,
+        blocks: need as u16,
+    }
+}

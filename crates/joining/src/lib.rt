@@ -1,4 +1,0 @@
-// Free blocks joined behind a chain.
-mod joining;
-
-pub use joining::extend;

@@ -1,2 +1,0 @@
-pub mod Rooming
-pub mod Inserting

@@ -1,4 +1,0 @@
-pub mod Clashes
-pub mod Distinct
-pub mod Kept
-pub mod Homes

@@ -1,0 +1,186 @@
+-- `one_of_nine` meets its contract: whichever call is wanted, that call's own contract makes the event. Assumes nothing.
+use mathlib.Core.Path.{refl}
+use denote.Ref.{now}
+use borrow.Author.Needs.{needs}
+use Rattle.model.specs.Calls.{lent, only}
+use Rattle.volume.specs.Runs.{callOf}
+use Rattle.volume.proofs.Runs.{happens, lent-whole}
+use Rattle.volume.proofs.nine.one_of_nine.Statement.{statement}
+use Rattle.volume.proofs.nine.one_of_nine.Tie as tie
+
+enum-told : tie.Need-enum-told
+enum-told c = search needs
+
+check-requires : tie.Need-check-requires
+check-requires c κs = search needs
+
+enum-told-2 : tie.Need-enum-told-2
+enum-told-2 c = search needs
+
+entry-requires : tie.Need-entry-requires
+entry-requires c κs = search needs
+
+enum-told-3 : tie.Need-enum-told-3
+enum-told-3 c = search needs
+
+find-requires : tie.Need-find-requires
+find-requires c κs = search needs
+
+enum-told-4 : tie.Need-enum-told-4
+enum-told-4 c = search needs
+
+block-requires : tie.Need-block-requires
+block-requires c κs = search needs
+
+enum-told-5 : tie.Need-enum-told-5
+enum-told-5 c = search needs
+
+read-requires : tie.Need-read-requires
+read-requires c κs = search needs
+
+enum-told-6 : tie.Need-enum-told-6
+enum-told-6 c = search needs
+
+create-requires : tie.Need-create-requires
+create-requires c κs = search needs
+
+enum-told-7 : tie.Need-enum-told-7
+enum-told-7 c = search needs
+
+write-requires : tie.Need-write-requires
+write-requires c κs = search needs
+
+enum-told-8 : tie.Need-enum-told-8
+enum-told-8 c = search needs
+
+cut-requires : tie.Need-cut-requires
+cut-requires c κs = search needs
+
+enum-told-9 : tie.Need-enum-told-9
+enum-told-9 c = search needs
+
+delete-requires : tie.Need-delete-requires
+delete-requires c κs = search needs
+
+same-length : tie.Need-same-length
+same-length c = search needs
+
+returns : tie.Need-returns
+unfolding callOf lent
+returns c = rw (c .before .before .enum-told .given .1) (happens (c .check .ensures) _ _ refl)
+
+same-length-2 : tie.Need-same-length-2
+same-length-2 c = search needs
+
+returns-2 : tie.Need-returns-2
+unfolding callOf lent
+returns-2 c = rw (c .before .before .enum-told2 .given .1) (happens (c .entry .ensures) _ _ refl)
+
+same-length-3 : tie.Need-same-length-3
+same-length-3 c = search needs
+
+returns-3 : tie.Need-returns-3
+unfolding callOf lent
+returns-3 c = rw (c .before .before .enum-told3 .given .1) (happens (c .find .ensures) _ _ refl)
+
+same-length-4 : tie.Need-same-length-4
+same-length-4 c = search needs
+
+returns-4 : tie.Need-returns-4
+unfolding callOf lent
+returns-4 c = rw (c .before .before .enum-told4 .given .1) (happens (c .block .ensures) _ _ refl)
+
+same-length-5 : tie.Need-same-length-5
+same-length-5 c = search needs
+
+same-length-6 : tie.Need-same-length-6
+same-length-6 c = search needs
+
+returns-5 : tie.Need-returns-5
+unfolding callOf lent
+returns-5 c =
+    let k = c .before .before in
+    let b = now (k .before .before .before .before .before .before .before .before .before .args .buffer) in
+    rw (k .before .before .before .enum-told5 .given .1) (happens (k .read .ensures) b _ (lent-whole b _))
+
+same-length-7 : tie.Need-same-length-7
+same-length-7 c = search needs
+
+returns-6 : tie.Need-returns-6
+unfolding callOf lent only
+returns-6 c =
+    let k = c .before .before in
+    let b = now (k .before .before .before .before .before .before .before .before .args .buffer) in
+    rw (k .before .before .enum-told6 .given .1) (happens (k .create .ensures) b b refl)
+
+same-length-8 : tie.Need-same-length-8
+same-length-8 c = search needs
+
+returns-7 : tie.Need-returns-7
+unfolding callOf lent only
+returns-7 c =
+    let k = c .before .before in
+    let b = now (k .before .before .before .before .before .before .before .before .args .buffer) in
+    rw (k .before .before .enum-told7 .given .1) (happens (k .write .ensures) b b refl)
+
+same-length-9 : tie.Need-same-length-9
+same-length-9 c = search needs
+
+returns-8 : tie.Need-returns-8
+unfolding callOf lent only
+returns-8 c =
+    let k = c .before .before in
+    let b = now (k .before .before .before .before .before .before .before .before .args .buffer) in
+    rw (k .before .before .enum-told8 .given .1) (happens (k .cut .ensures) b b refl)
+
+same-length-10 : tie.Need-same-length-10
+same-length-10 c = search needs
+
+returns-9 : tie.Need-returns-9
+unfolding callOf lent only
+returns-9 c =
+    let k = c .before .before in
+    let b = now (k .before .before .before .before .before .before .before .before .args .buffer) in
+    rw (k .before .before .enum-told9 .given .1) (happens (k .delete .ensures) b b refl)
+
+pub one-of-nine-spec : {M : Type 1} → statement M
+one-of-nine-spec =
+    tie.close
+    (tie.spec
+    enum-told
+    check-requires
+    enum-told-2
+    entry-requires
+    enum-told-3
+    find-requires
+    enum-told-4
+    block-requires
+    enum-told-5
+    read-requires
+    enum-told-6
+    create-requires
+    enum-told-7
+    write-requires
+    enum-told-8
+    cut-requires
+    enum-told-9
+    delete-requires
+    same-length
+    returns
+    same-length-2
+    returns-2
+    same-length-3
+    returns-3
+    same-length-4
+    returns-4
+    same-length-5
+    same-length-6
+    returns-5
+    same-length-7
+    returns-6
+    same-length-8
+    returns-7
+    same-length-9
+    returns-8
+    same-length-10
+    returns-9)
