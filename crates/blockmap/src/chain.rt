@@ -13,29 +13,29 @@ use model::AllocationBlock;
 use model::ForkFacts;
 
 // Whether a chain of exactly k blocks runs from s, none of which is marked. Where it does, each of its blocks is marked.
+// s is a map value, or a fork's start as stored, and may be no block's number (0, 1 or bad): so it is a plain number.
 // Each call but the last marks a block that had no mark, so there are at most n + 1 of them, whatever k is.
-pub fn walk(entries: &[u16; 642], n: u16, s: AllocationBlock, k: u16, marks: &mut [u8; 642]) -> bool
+pub fn walk(entries: &[u16; 642], n: u16, s: u16, k: u16, marks: &mut [u8; 642]) -> bool
     requires { ⌜ n ≤ 640 ⌝ }
-    ensures answer { λ r. ⌜ r ≡ (runs (entryIn (now (entries .entry))) n k (s .0) && fresh (now (marks .entry)) (chainBlocks (entryIn (now (entries .entry))) k (s .0))) ⌝ }
-    ensures after { λ r. ⌜ (r ≡ true → now (marks .exit) ≡ marked (now (marks .entry)) (chainBlocks (entryIn (now (entries .entry))) k (s .0))) ⌝ }
+    ensures answer { λ r. ⌜ r ≡ (runs (entryIn (now (entries .entry))) n k s && fresh (now (marks .entry)) (chainBlocks (entryIn (now (entries .entry))) k s)) ⌝ }
+    ensures after { λ r. ⌜ (r ≡ true → now (marks .exit) ≡ marked (now (marks .entry)) (chainBlocks (entryIn (now (entries .entry))) k s)) ⌝ }
 {
-    let b = s.0;
     if k == 0 {
-        return b == 1;
+        return s == 1;
     }
-    if b < 2 {
+    if s < 2 {
         return false;
     }
-    if n + 1 < b {
+    if n + 1 < s {
         return false;
     }
-    let place = b as usize;
+    let place = s as usize;
     if marks[place] != 0 {
         return false;
     }
     marks[place] = 1;
     let next = entries[place];
-    walk(entries, n, AllocationBlock(next), k - 1, marks)
+    walk(entries, n, next, k - 1, marks)
 }
 
 // Whether a fork is good, by check 8, and has no marked block. Where it is so, each of its blocks is marked.
@@ -67,7 +67,7 @@ pub fn claim_fork(entries: &[u16; 642], n: u16, a: u32, g: ForkFacts, marks: &mu
     if (n as u32) < k {
         return false;
     }
-    walk(entries, n, AllocationBlock(first), k as u16, marks)
+    walk(entries, n, first, k as u16, marks)
 }
 
 // The block at a place of the chain that runs from s, counted from 0.
@@ -75,11 +75,11 @@ pub fn block_at(image: &[u8], s: AllocationBlock, place: u16) -> AllocationBlock
     requires { ⌜ HasPlace (mapEntry (now image)) (s .0) place × (2048 ≤ length (now image)) ⌝ }
     ensures { λ r. ⌜ IsPlace (mapEntry (now (image .entry))) (s .0) place (r .0) ⌝ }
 {
-    let mut b = s.0;
+    let mut b = s;
     let mut i: u16 = 0;
     while i < place {
-        b = load(image, AllocationBlock(b));
+        b = AllocationBlock(load(image, b));
         i += 1;
     }
-    AllocationBlock(b)
+    b
 }

@@ -62,8 +62,8 @@ module _ (c : tie.After-next-free) where
   some : 1 ≤ start .args .need
   some = omega arith
 
-  enough : start .args .need ≤ length (freeFrom (mapEntry (now (start .args .image))) (start .args .n) (c .next-free .result))
-  enough = omega (arith, start .pre .3, ap length (free-from (mapEntry (now (start .args .image))) (start .args .n) (c .next-free .result) (c .next-free .ensures)))
+  enough : start .args .need ≤ length (freeFrom (mapEntry (now (start .args .image))) (start .args .n) (c .next-free .result .0))
+  enough = omega (arith, start .pre .3, ap length (free-from (mapEntry (now (start .args .image))) (start .args .n) (c .next-free .result .0) (c .next-free .ensures)))
 
 join-free-requires : tie.Need-join-free-requires
 join-free-requires c κs =
@@ -82,7 +82,7 @@ returns-3 c =
     let l = now (a .image) in
     let e = mapEntry l in
     let f = d .next-free .ensures in
-    let x = d .next-free .result in
+    let x = d .next-free .result .0 in
     let q = no-chain e (a .k) (a .s .0) (take (a .need) (freeBlocks e (a .n))) (c .before .before .before .before .if3 .taken) in (
       c .before .before .join-free .ensures ∙ ap (putChain l) (ap (take (a .need)) (sym (free-from e (a .n) x f)) ∙ sym q),
       sym (ap firstOr0 q ∙ first-new e (a .n) x (a .need) f (some d) .1),
@@ -126,7 +126,7 @@ join-free-requires-2 c κs =
     let a = start (free d) .args in
     let p = start (free d) .pre in
     let f = free d .next-free .ensures in
-    let x = free d .next-free .result in
+    let x = free d .next-free .result .0 in
     let st = c .before .before .before .store in
     let r = ext-requires (a .n) (now (a .image)) (a .k - 1) (a .s .0) x (p .0) (p .1) (chain d) f
     (d .block-at .result .0) (st .last .0) (a .need) (stands d) (st .ensures) (p .3) in
@@ -142,7 +142,7 @@ returns-4 c =
     let a = start (free d) .args in
     let p = start (free d) .pre in
     let f = free d .next-free .ensures in
-    let x = free d .next-free .result in
+    let x = free d .next-free .result .0 in
     let l = now (a .image) in
     let st = c .before .before .before .before .before .before .store in (
       c .before .before .join-free2 .ensures

@@ -12,29 +12,31 @@ use Rattle.blockmap.proofs.allocate.join_free.Statement.{statement}
 use Rattle.blockmap.proofs.allocate.join_free.Tie as tie
 
 abbrev Inv-loop : tie.InvT-loop
-Inv-loop image₀ n b need last₀ left₀ image last left =
-    (length image ≡ length image₀) × Linking n image last left (putChain image₀ (take need (freeFrom (mapEntry image₀) n b)))
+Inv-loop image₀ n need last₀ left₀ image last left =
+    (length image ≡ length image₀) × Linking n image (last .0) left (putChain image₀ (take need (freeFrom (mapEntry image₀) n (last₀ .0))))
 
 abbrev μ-loop : tie.MeasureT-loop
-μ-loop image₀ n b need last₀ left₀ image last left = left
+μ-loop image₀ n need last₀ left₀ image last left = left
 
 loop-holds : tie.Need-loop-holds Inv-loop μ-loop
 loop-holds c =
     let p = c .before .pre in
     (refl, record { big = p .1; low = p .2; high = p .3; free = p .4; some = p .5; enough = p .6; leaves = refl })
 
-add-next-free : tie.Need-add-next-free Inv-loop μ-loop
-add-next-free c = omega (arith, c .before .before .loop .inv .1 .high)
+add-after : tie.Need-add-after Inv-loop μ-loop
+add-after c = omega (arith, c .before .before .loop .inv .1 .high)
 
 next-free-requires : tie.Need-next-free-requires Inv-loop μ-loop
 next-free-requires c κs =
-    let l = c .before .before .loop in
+    let p = c .before .before in
+    let n = p .before .before .before .args .n in
+    let l = p .before .loop in
     let f = l .inv .1 in
-    (omega arith, f .big, omega (arith, f .low), link-more (c .before .before .before .before .args .n) (l .last) (l .left) (l .image) _ f (c .before .loop-test .taken))
+    (omega arith, f .big, omega (arith, f .low), link-more n (l .last .0) (l .left) (l .image) _ f (p .loop-test .taken))
 
 store-requires : tie.Need-store-requires Inv-loop μ-loop
 store-requires c κs =
-    let f = c .before .before .before .before .loop .inv .1 in
+    let f = c .before .before .before .before .before .loop .inv .1 in
     (f .low, omega (arith, f .high), f .big, omega (arith, c .before .next-free .ensures .high))
 
 sub-left : tie.Need-sub-left Inv-loop μ-loop
@@ -45,14 +47,15 @@ loop-less c = omega arith
 
 loop-again : tie.Need-loop-again Inv-loop μ-loop
 loop-again c =
-    let p = c .before .before .before .before .before .before in
+    let p = c .before .before .before .before .before .before .before in
     let a = p .before .before .before .args in
     let l = p .before .loop in
     let x = c .before .before .before .before .next-free in
-    let st = c .before .before .store .ensures in (
-      ap length st ∙ length-setEntry (l .image) (l .last) (x .result) ∙ l .inv .0,
-      link-next (a .n) (l .last) (l .left) (l .image) (putChain (now (a .image)) (take (a .need) (freeFrom (mapEntry (now (a .image))) (a .n) (a .b))))
-          (l .inv .1) (x .result) (c .before .before .store .last .0) st (omega arith) (p .loop-test .taken) (x .ensures),
+    let st = c .before .before .store .ensures in
+    let i = now (a .image) in (
+      ap length st ∙ length-setEntry (l .image) (l .last .0) (x .result .0) ∙ l .inv .0,
+      link-next (a .n) (l .last .0) (l .left) (l .image) (putChain i (take (a .need) (freeFrom (mapEntry i) (a .n) (a .b .0))))
+          (l .inv .1) (x .result .0) (c .before .before .store .last .0) st (omega arith) (p .loop-test .taken) (x .ensures),
     )
 
 store-requires-2 : tie.Need-store-requires-2 Inv-loop μ-loop
@@ -63,12 +66,12 @@ store-requires-2 c κs =
 same-length : tie.Need-same-length Inv-loop μ-loop
 same-length c =
     let l = c .before .before .before .before .before .loop in
-    ap length (c .before .before .store2 .ensures) ∙ length-setEntry (l .image) (l .last) 1 ∙ l .inv .0
+    ap length (c .before .before .store2 .ensures) ∙ length-setEntry (l .image) (l .last .0) 1 ∙ l .inv .0
 
 returns : tie.Need-returns Inv-loop μ-loop
 returns c =
     let l = c .before .before .before .before .before .loop in
-    c .before .before .store2 .ensures ∙ link-last _ (l .last) (l .left) (l .image) _ (l .inv .1) (omega (arith, l .inv .1 .some))
+    c .before .before .store2 .ensures ∙ link-last _ (l .last .0) (l .left) (l .image) _ (l .inv .1) (omega (arith, l .inv .1 .some))
 
 pub join-free-spec : {M : Type 1} → statement M
 join-free-spec =
@@ -77,7 +80,7 @@ join-free-spec =
     Inv-loop
     μ-loop
     loop-holds
-    add-next-free
+    add-after
     next-free-requires
     store-requires
     sub-left

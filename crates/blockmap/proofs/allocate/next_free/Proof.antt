@@ -11,15 +11,15 @@ use Rattle.blockmap.proofs.allocate.next_free.Statement.{statement}
 use Rattle.blockmap.proofs.allocate.next_free.Tie as tie
 
 abbrev Inv-loop : tie.InvT-loop
-Inv-loop image n b at₀ at = (b ≤ at) × (at < n + 2) × (freeFrom (mapEntry image) n b ≡ freeFrom (mapEntry image) n at)
+Inv-loop image n at₀ at = (at₀ ≤ at) × (at < n + 2) × (freeFrom (mapEntry image) n at₀ ≡ freeFrom (mapEntry image) n at)
 
 abbrev μ-loop : tie.MeasureT-loop
-μ-loop image n b at₀ at = n + 2 - at
+μ-loop image n at₀ at = n + 2 - at
 
 loop-holds : tie.Need-loop-holds Inv-loop μ-loop
 loop-holds c =
     let a = c .before .args in
-    (omega arith, free-below (mapEntry (now (a .image))) (a .n) (a .b) (c .before .pre .3), refl)
+    (omega arith, free-below (mapEntry (now (a .image))) (a .n) (a .b .0) (c .before .pre .3), refl)
 
 load-requires : tie.Need-load-requires Inv-loop μ-loop
 load-requires c κs = omega arith

@@ -29,14 +29,14 @@ walk-returns t c =
     let a = c .before .args in
     let e = entryIn (now (a .entries)) in
     let m = now (a .marks) in
-    (walk-ends e (a .n) m (a .k) (a .s .0) (c .if1 .taken), λ r. ends-marked e m (a .k) (a .s .0) (c .if1 .taken))
+    (walk-ends e (a .n) m (a .k) (a .s) (c .if1 .taken), λ r. ends-marked e m (a .k) (a .s) (c .if1 .taken))
 
 walk-returns-2 : (t : ℕ) → walk-lts.Need-returns-2 (walk-below t, walk.Post) (walk-at t) walk.Post
 walk-returns-2 t c =
     let a = c .before .before .args in
     let e = entryIn (now (a .entries)) in
     let m = now (a .marks) in
-    (walk-none e (a .n) m (a .k) (a .s .0) (omega arith) (too-low (a .n) (a .s .0) (omega arith)), λ r. absurd (false≢true r))
+    (walk-none e (a .n) m (a .k) (a .s) (omega arith) (too-low (a .n) (a .s) (omega arith)), λ r. absurd (false≢true r))
 
 walk-add-if3 : (t : ℕ) → walk-lts.Need-add-if3 (walk-below t, walk.Post) (walk-at t) walk.Post
 walk-add-if3 t c = omega arith
@@ -46,10 +46,7 @@ walk-returns-3 t c =
     let a = c .before .before .before .args in
     let e = entryIn (now (a .entries)) in
     let m = now (a .marks) in
-    (walk-none e (a .n) m (a .k) (a .s .0) (omega arith) (too-high (a .n) (a .s .0) (omega arith)), λ r. absurd (false≢true r))
-
-walk-cast-place : (t : ℕ) → walk-lts.Need-cast-place (walk-below t, walk.Post) (walk-at t) walk.Post
-walk-cast-place t c = omega arith
+    (walk-none e (a .n) m (a .k) (a .s) (omega arith) (too-high (a .n) (a .s) (omega arith)), λ r. absurd (false≢true r))
 
 walk-element-copy-out-if4 : (t : ℕ) → walk-lts.Need-element-copy-out-if4 (walk-below t, walk.Post) (walk-at t) walk.Post
 walk-element-copy-out-if4 t c = omega arith
@@ -59,7 +56,7 @@ walk-returns-4 t c =
     let a = c .before .before .before .before .before .args in
     let e = entryIn (now (a .entries)) in
     let m = now (a .marks) in
-    (walk-met e (a .n) m (a .k) (a .s .0) (omega arith) (c .if4 .taken), λ r. absurd (false≢true r))
+    (walk-met e (a .n) m (a .k) (a .s) (omega arith) (c .if4 .taken), λ r. absurd (false≢true r))
 
 walk-element-write-marks : (t : ℕ) → walk-lts.Need-element-write-marks (walk-below t, walk.Post) (walk-at t) walk.Post
 walk-element-write-marks t c = omega arith
@@ -85,9 +82,9 @@ walk-returns-5 t c =
     let m = now (a .marks) in
     let j = a .k - 1 in
     let q : a .k ≡ suc j = omega arith in
-    let here = is-block (a .n) (a .s .0) (omega arith) (omega arith) in (
-      c .walk .ensures .0 ∙ walk-on e (a .n) m (a .k) j (a .s .0) q here (p .if4 .left),
-      λ r. c .walk .ensures .1 r ∙ on-marked e m (a .k) j (a .s .0) q,
+    let here = is-block (a .n) (a .s) (omega arith) (omega arith) in (
+      c .walk .ensures .0 ∙ walk-on e (a .n) m (a .k) j (a .s) q here (p .if4 .left),
+      λ r. c .walk .ensures .1 r ∙ on-marked e m (a .k) j (a .s) q,
     )
 
 pub +walk-spec : {M : Type 1} → statement M
@@ -98,7 +95,6 @@ pub +walk-spec : {M : Type 1} → statement M
     (walk-returns-2 t)
     (walk-add-if3 t)
     (walk-returns-3 t)
-    (walk-cast-place t)
     (walk-element-copy-out-if4 t)
     (walk-returns-4 t)
     (walk-element-write-marks t)

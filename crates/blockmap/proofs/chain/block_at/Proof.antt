@@ -10,7 +10,7 @@ use Rattle.blockmap.proofs.chain.block_at.Statement.{statement}
 use Rattle.blockmap.proofs.chain.block_at.Tie as tie
 
 abbrev Inv-loop : tie.InvT-loop
-Inv-loop image place b₀ i₀ b i = (i ≤ place) × (b ≡ at (mapEntry image) b₀ i)
+Inv-loop image place b₀ i₀ b i = (i ≤ place) × (b .0 ≡ at (mapEntry image) (b₀ .0) i)
 
 abbrev μ-loop : tie.MeasureT-loop
 μ-loop image place b₀ i₀ b i = place - i
@@ -44,7 +44,7 @@ returns c =
     let l = c .before .loop in
     let e = mapEntry (now (a .image)) in
     let end : l .i ≡ a .place = omega arith in
-    let here : at e (a .s .0) (a .place) ≡ l .b = sym (l .inv .1 ∙ ap (at e (a .s .0)) end) in
+    let here : at e (a .s .0) (a .place) ≡ l .b .0 = sym (l .inv .1 ∙ ap (at e (a .s .0)) end) in
     subst (IsPlace e (a .s .0) (a .place)) here (is-place e (a .s .0) (a .place) (c .before .before .before .pre .0))
 
 pub block-at-spec : {M : Type 1} → statement M
