@@ -19,15 +19,11 @@ use Rattle.model.specs.declared.VolumeFacts.{VolumeFacts}
 use Rattle.model.specs.declared.Fork.{Fork}
 use Rattle.directory.specs.declared.EntryAt.{EntryAt}
 use Rattle.files.specs.Told.{toldNumber}
-use Rattle.files.specs.Lookup.{Readable, Found, Missed}
+use Rattle.files.specs.declared.Named.{Named}
+use Rattle.files.specs.declared.Named.the-variants.{At, Refused}
+use Rattle.files.specs.Lookup.{Readable, Found, Missed, Changeable, Barred, MayChange, begins}
 use Rattle.files.proofs.Forks.{named-bytes}
 use Rattle.files.proofs.Replies.{fires-before, refuse, serve}
-
--- 11, 12, 13 and 15, then the rest
-abbrev pub begins : List ℕ → List ℕ → ℕ → ℕ
-begins image name rest =
-    orElse (isLocked (factsOf image)) 11 (orElse (badName name) 12 (orElse (not (any (named name) (directory image))) 13
-    (orElse (flagsLock (byte (entryNamed name image) 0)) 15 rest)))
 
 -- the call's refusals begin so, and it tells nothing but its number
 pub record Changing (call : Call) (image name : List ℕ) (rest : ℕ) : Type 0 where
@@ -57,44 +53,77 @@ module _ (image name : List ℕ) where
   unfolding refuses knownIn nameOf forkGiven lent reply
   delete-changing = record { own = refl; lends = refl; tells = refl }
 
+-- ---- the file that may be changed
+
+-- what is behind 11, 12, 13 and 15 changes nothing where one of them fires
+begins-before : (a b c d : Bool) (rest : ℕ) → (orElse a 11 (orElse b 12 (orElse c 13 (orElse d 15 0))) ≡ 0 → ⊥)
+    → orElse a 11 (orElse b 12 (orElse c 13 (orElse d 15 0))) ≡ orElse a 11 (orElse b 12 (orElse c 13 (orElse d 15 rest)))
+begins-before true b c d rest z = refl
+begins-before false true c d rest z = refl
+begins-before false false true d rest z = refl
+begins-before false false false true rest z = refl
+begins-before false false false false rest z = absurd (z refl)
+
+module _ {f : VolumeFacts} {image : List ℕ} (r : Readable f image) (name : List ℕ) where
+  locked-in : (b : Bool) → isLocked f ≡ b → isLocked (factsOf image) ≡ b
+  locked-in b h = ap isLocked (sym (r .facts)) ∙ h
+
+  pub barred-11 : isLocked f ≡ true → Barred image name 11
+  barred-11 h = record { fires = rw (locked-in true h); some = λ z. omega arith }
+
+  module _ (unlocked : isLocked f ≡ false) where
+    -- 12 or 13
+    pub barred-name : (number : ℕ) → Missed image name number → Barred image name number
+    barred-name number h =
+        let none = not (any (named name) (directory image)) in
+        let rest = orElse (flagsLock (byte (entryNamed name image) 0)) 15 0 in
+        let later : number ≡ orElse (badName name) 12 (orElse none 13 rest) =
+        h .fires ∙ fires-before (badName name) none rest (λ e. h .some (h .fires ∙ e)) in
+        record { fires = rw (locked-in false unlocked) later; some = h .some }
+
+    module _ (place : ℕ) (e : EntryAt) (h : Found image name place e) where
+      pub barred-15 : flagsLock (byte (bytesAt image e) 0) ≡ true → Barred image name 15
+      barred-15 l =
+          let l′ = rw (named-bytes r h) at l in
+          record { fires = rw (locked-in false unlocked, h .title, h .there .exists, l′); some = λ z. omega arith }
+
+      pub unbarred : flagsLock (byte (bytesAt image e) 0) ≡ false → Changeable image name place e
+      unbarred l = record { writable = locked-in false unlocked; found = h; unlocked = l }
+
+-- which it is, by its case
+module _ (image name : List ℕ) (n : Named) (h : MayChange image name n) where
+  pub changed-file : (place : ℕ) (e : EntryAt) → n ≡ At place e → Changeable image name place e
+  changed-file place e p = rw p at h
+
+  pub changed-none : (number : ℕ) → n ≡ Refused number → Barred image name number
+  changed-none number p = rw p at h
+
+-- ---- the returns
+
 module _ {f : VolumeFacts} {image : List ℕ} (r : Readable f image) (octets : Bytes image)
     {call : Call} {name : List ℕ} {rest : ℕ} (c : Changing call image name rest) (fits : Fits call) where
   -- refused by n
   stops : (n : ℕ) → n ≡ begins image name rest → (n ≡ 0 → ⊥) → Does call image (toldNumber n) image
   stops n h z = subst (λ (l : List ℕ). Does call image (only n l) image) (c .lends) (refuse r octets call n fits (h ∙ sym (c .own)) z)
 
-  locked-in : (b : Bool) → isLocked f ≡ b → isLocked (factsOf image) ≡ b
-  locked-in b h = ap isLocked (sym (r .facts)) ∙ h
+  -- 11, 12, 13 or 15
+  pub refused : (n : ℕ) → Barred image name n → Does call image (toldNumber n) image
+  refused n h =
+      let none = not (any (named name) (directory image)) in
+      let held = flagsLock (byte (entryNamed name image) 0) in
+      stops n (h .fires ∙ begins-before (isLocked (factsOf image)) (badName name) none held rest (λ e. h .some (h .fires ∙ e))) (h .some)
 
-  pub refused-11 : isLocked f ≡ true → Does call image (toldNumber 11) image
-  refused-11 h = stops 11 (rw (locked-in true h)) (λ z. omega arith)
+  module _ {place : ℕ} {e : EntryAt} (h : Changeable image name place e) where
+    past-15 : begins image name rest ≡ rest
+    past-15 =
+        let l = rw (named-bytes r (h .found)) at (h .unlocked) in
+        rw (h .writable, h .found .title, h .found .there .exists, l)
 
-  module _ (unlocked : isLocked f ≡ false) where
-    -- 12 or 13
-    pub refused-name : (number : ℕ) → Missed image name number → Does call image (toldNumber number) image
-    refused-name number h =
-        let none = not (any (named name) (directory image)) in
-        let rest′ = orElse (flagsLock (byte (entryNamed name image) 0)) 15 rest in
-        let later : number ≡ orElse (badName name) 12 (orElse none 13 rest′) =
-        h .fires ∙ fires-before (badName name) none rest′ (λ e. h .some (h .fires ∙ e)) in
-        stops number (rw (locked-in false unlocked) later) (h .some)
+    -- 16 or 17
+    pub refused-own : (n : ℕ) → rest ≡ n → (n ≡ 0 → ⊥) → Does call image (toldNumber n) image
+    refused-own n q z = stops n (sym (past-15 ∙ q)) z
 
-    module _ (place : ℕ) (e : EntryAt) (h : Found image name place e) where
-      file-in : (b : Bool) → flagsLock (byte (bytesAt image e) 0) ≡ b → flagsLock (byte (entryNamed name image) 0) ≡ b
-      file-in b l = ap (λ (x : List ℕ). flagsLock (byte x 0)) (sym (named-bytes r h)) ∙ l
-
-      pub refused-15 : flagsLock (byte (bytesAt image e) 0) ≡ true → Does call image (toldNumber 15) image
-      refused-15 l = stops 15 (rw (locked-in false unlocked, h .title, h .there .exists, file-in true l)) (λ z. omega arith)
-
-      module _ (writable : flagsLock (byte (bytesAt image e) 0) ≡ false) where
-        past-15 : begins image name rest ≡ rest
-        past-15 = rw (locked-in false unlocked, h .title, h .there .exists, file-in false writable)
-
-        -- 16 or 17
-        pub refused-own : (n : ℕ) → rest ≡ n → (n ≡ 0 → ⊥) → Does call image (toldNumber n) image
-        refused-own n q z = stops n (sym (past-15 ∙ q)) z
-
-        pub done : rest ≡ 0 → (left : List ℕ) → left ≡ change call image → Does call image (toldNumber 0) left
-        done q left l =
-            subst (λ (x : List ℕ). Does call image (only 0 []) x) (sym l)
-            (subst (λ x. Does call image x (change call image)) (c .tells) (serve r octets call fits (c .own ∙ past-15 ∙ q)))
+    pub done : rest ≡ 0 → (left : List ℕ) → left ≡ change call image → Does call image (toldNumber 0) left
+    done q left l =
+        subst (λ (x : List ℕ). Does call image (only 0 []) x) (sym l)
+        (subst (λ x. Does call image x (change call image)) (c .tells) (serve r octets call fits (c .own ∙ past-15 ∙ q)))

@@ -1,13 +1,14 @@
--- What a name given to a call names.
+-- What a name given to a call names, and which of its files a call may change.
 use Prim.Native.Nat.{ℕ, _*_}
 use mathlib.Core.Path.{_≡_}
 use mathlib.Core.Bool.{false, not}
 use mathlib.Core.List.{List}
-use Rattle.model.specs.Facts.{factsOf, dirStart, dirLength}
+use Rattle.model.specs.Bytes.{byte}
+use Rattle.model.specs.Facts.{factsOf, dirStart, dirLength, isLocked}
 use Rattle.model.specs.Lists.{any}
-use Rattle.model.specs.Directory.{directory, forkOf, named}
+use Rattle.model.specs.Directory.{directory, forkOf, flagsLock, named}
 use Rattle.model.specs.Check.{orElse, Accepted}
-use Rattle.model.specs.Calls.{badName}
+use Rattle.model.specs.Calls.{badName, entryNamed}
 use Rattle.directory.specs.Cursor.{bytesAt, Lies}
 use Rattle.directory.specs.Search as search
 use Rattle.directory.specs.declared.EntryAt.{EntryAt}
@@ -36,6 +37,27 @@ pub record Missed (image name : List ℕ) (number : ℕ) : Type 0 where
 abbrev pub Names : List ℕ → List ℕ → Named → Type 0
 Names image name (At place e) = Found image name place e
 Names image name (Refused number) = Missed image name number
+
+-- the entry of a name where neither the volume nor the file is locked
+pub record Changeable (image name : List ℕ) (place : ℕ) (e : EntryAt) : Type 0 where
+  pub writable : isLocked (factsOf image) ≡ false
+  pub found : Found image name place e
+  pub unlocked : flagsLock (byte (bytesAt image e) 0) ≡ false
+
+-- 11, 12, 13 and 15, which a call that changes the file of a name begins with, then the rest
+abbrev pub begins : List ℕ → List ℕ → ℕ → ℕ
+begins image name rest =
+    orElse (isLocked (factsOf image)) 11 (orElse (badName name) 12 (orElse (not (any (named name) (directory image))) 13
+    (orElse (flagsLock (byte (entryNamed name image) 0)) 15 rest)))
+
+-- one of them
+pub record Barred (image name : List ℕ) (number : ℕ) : Type 0 where
+  pub fires : number ≡ begins image name 0
+  pub some : number ≡ 0 → ⊥
+
+abbrev pub MayChange : List ℕ → List ℕ → Named → Type 0
+MayChange image name (At place e) = Changeable image name place e
+MayChange image name (Refused number) = Barred image name number
 
 -- e is the entry of a name in an accepted image, whose facts are f
 pub record Held (f : VolumeFacts) (image : List ℕ) (e : EntryAt) : Type 0 where

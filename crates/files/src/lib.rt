@@ -6,11 +6,11 @@ mod searching;
 pub use answers::no_entry;
 pub use answers::no_facts;
 use directory::EntryAt;
-pub use locks::file_locked;
 pub use locks::is_locked;
 use model::AllocationBlock;
 use model::DirectoryEntry;
 use model::VolumeFacts;
+pub use searching::changeable;
 pub use searching::first_entry;
 pub use searching::lookup;
 

@@ -1,9 +1,11 @@
-// From a name to its entry: refusals 12 and 13.
+// From a name to its entry: refusals 12 and 13, and for a call that changes the file 11 and 15 too.
 ghost use Prim.Native.Nat.{_≤_};
 ghost use Rattle.model.specs.Facts.{dirStart, dirLength};
 ghost use Rattle.directory.specs.Cursor.{Begins};
-ghost use Rattle.files.specs.Lookup.{Readable, Names};
+ghost use Rattle.files.specs.Lookup.{Readable, Names, MayChange};
 use crate::Named;
+use crate::locks::file_locked;
+use crate::locks::is_locked;
 use directory::Cursor;
 use directory::Found;
 use model::VolumeFacts;
@@ -31,5 +33,24 @@ pub fn lookup(image: &[u8], f: VolumeFacts, name: &[u8]) -> Named
     match directory::locate(image, first_entry(f), name) {
         Found::At(place, e) => Named::At(place, e),
         Found::Nothing => Named::Refused(13),
+    }
+}
+
+// The entry of the name for a call that changes the file.
+pub fn changeable(image: &[u8], f: VolumeFacts, name: &[u8]) -> Named
+    requires { ⌜ Readable f (now image) ⌝ }
+    ensures { λ r. ⌜ MayChange (now (image .entry)) (now (name .entry)) r ⌝ }
+{
+    if is_locked(f) {
+        return Named::Refused(11);
+    }
+    match lookup(image, f, name) {
+        Named::Refused(number) => Named::Refused(number),
+        Named::At(place, e) => {
+            if file_locked(image, e) {
+                return Named::Refused(15);
+            }
+            Named::At(place, e)
+        }
     }
 }

@@ -1,45 +1,37 @@
 -- `serve_delete` meets its contract. Assumes nothing.
-use mathlib.Core.Path.{_≡_, sym, _∙_}
-use mathlib.Core.Bool.{false}
 use denote.Ref.{now}
 use Rattle.model.specs.Bytes.{Bytes}
-use Rattle.model.specs.Facts.{isLocked}
 use Rattle.model.specs.Calls.{Fits}
 use Rattle.model.specs.Calls.Call.{delete}
-use Rattle.files.specs.Lookup.{Found}
+use Rattle.files.specs.Lookup.{Changeable}
 use Rattle.files.proofs.Octets.{octets}
-use Rattle.files.proofs.Lookups.{names-file, names-none}
-use Rattle.files.proofs.Refusing.{delete-changing, refused-11, refused-name, refused-15}
+use Rattle.files.proofs.Refusing.{delete-changing, changed-file, changed-none, refused}
 use Rattle.call_delete.proofs.Deletes.{delete-fits, delete-done}
 use borrow.Author.Needs.{needs}
 use Rattle.call_delete.proofs.delete.serve_delete.Statement.{statement}
 use Rattle.call_delete.proofs.delete.serve_delete.Tie as tie
 
 -- the arguments
-module _ (c : tie.After-is-locked) where
+module _ (c : tie.After-changeable) where
   abbrev start : tie.Start
-  start = c .before .before .before
+  start = c .before .before .before .before
 
   image-bytes : Bytes (now (start .args .image))
-  image-bytes = octets _ (c .before .before .slice-known .given)
+  image-bytes = octets _ (c .before .before .before .slice-known .given)
 
   fits : Fits (delete (now (start .args .name)))
-  fits = delete-fits (now (start .args .name)) (octets _ (c .before .shared-slice-known .given))
+  fits = delete-fits (now (start .args .name)) (octets _ (c .before .before .shared-slice-known .given))
 
-is-locked-requires : tie.Need-is-locked-requires
-is-locked-requires c κs = search needs
+-- the file that may be changed
+file : (c : tie.After-e) → let a = start (c .before .before) .args in
+    Changeable (now (a .image)) (now (a .name)) (c .e .given .0 .0) (c .e .given .0 .1 .0)
+file c =
+    let k = c .before .before in
+    let a = start k .args in
+    changed-file (now (a .image)) (now (a .name)) (k .changeable .result) (k .changeable .ensures) _ _ (c .e .given .1)
 
-returns : tie.Need-returns
-returns c =
-    let k = c .before in
-    let s = start k in
-    refused-11 (s .pre) (image-bytes k) (delete-changing (now (s .args .image)) (now (s .args .name))) (fits k) (sym (k .is-locked .ensures) ∙ c .if1 .taken)
-
-unlocked : (c : tie.Else1) → isLocked (start (c .before) .args .f) ≡ false
-unlocked c = sym (c .before .is-locked .ensures) ∙ c .if1 .left
-
-lookup-requires : tie.Need-lookup-requires
-lookup-requires c κs = search needs
+changeable-requires : tie.Need-changeable-requires
+changeable-requires c κs = search needs
 
 enum-known-number : tie.Need-enum-known-number
 enum-known-number c = search needs
@@ -47,78 +39,42 @@ enum-known-number c = search needs
 enum-known-e : tie.Need-enum-known-e
 enum-known-e c = search needs
 
--- the named entry
-module _ (c : tie.After-e) where
-  abbrev past : tie.Else1
-  past = c .before .before .before .before
-
-  file : Found (now (start (past .before) .args .image)) (now (start (past .before) .args .name)) (c .e .given .0 .0) (c .e .given .0 .1 .0)
-  file =
-      let l = c .before .before in
-      let a = start (past .before) .args in
-      names-file (now (a .image)) (now (a .name)) (l .lookup .result) (l .lookup .ensures) _ _ (c .e .given .1)
-
-file-locked-requires : tie.Need-file-locked-requires
-file-locked-requires c κs = file (c .before .before) .there .stands
+take-file-requires : tie.Need-take-file-requires
+take-file-requires c κs =
+    let e = c .before .before in
+    let s = start (e .before .before) in
+    record { readable = s .pre; name = now (s .args .name); place = _; found = file e .found }
 
 same-length : tie.Need-same-length
 same-length c = search needs
 
-returns-2 : tie.Need-returns-2
-returns-2 c =
-    let w = c .before in
-    let e = w .before .before .before in
-    let k = past e .before in
-    let s = start k in
-    refused-15 (s .pre) (image-bytes k) (delete-changing (now (s .args .image)) (now (s .args .name))) (fits k)
-    (unlocked (past e)) _ _ (file e) (sym (w .file-locked .ensures) ∙ c .if2 .taken)
-
-take-file-requires : tie.Need-take-file-requires
-take-file-requires c κs =
-    let e = c .before .before .before .before .before in
-    let s = start (past e .before) in
-    record { readable = s .pre; name = now (s .args .name); place = _; found = file e }
+returns : tie.Need-returns
+returns c =
+    let n = c .before in
+    let k = n .before .before in
+    let a = start k .args in
+    refused (start k .pre) (image-bytes k) (delete-changing (now (a .image)) (now (a .name))) (fits k) _
+    (changed-none (now (a .image)) (now (a .name)) (k .changeable .result) (k .changeable .ensures) _ (n .number .given .1))
 
 same-length-2 : tie.Need-same-length-2
 same-length-2 c = search needs
 
-returns-3 : tie.Need-returns-3
-returns-3 c =
-    let n = c .before in
-    let l = n .before .before in
-    let p = l .before .before in
-    let k = p .before in
-    let s = start k in
-    refused-name (s .pre) (image-bytes k) (delete-changing (now (s .args .image)) (now (s .args .name))) (fits k)
-    (unlocked p) _ (names-none (now (s .args .image)) (now (s .args .name)) (l .lookup .result) (l .lookup .ensures) _ (n .number .given .1))
-
-same-length-3 : tie.Need-same-length-3
-same-length-3 c = search needs
-
-returns-4 : tie.Need-returns-4
-returns-4 c =
+returns-2 : tie.Need-returns-2
+returns-2 c =
     let d = c .before .before in
-    let b = d .before .before in
-    let w = b .before in
-    let e = w .before .before .before in
-    let k = past e .before in
-    let s = start k in
-    delete-done (s .pre) (image-bytes k) (now (s .args .name)) (fits k) (unlocked (past e)) _ _ (file e) (sym (w .file-locked .ensures) ∙ b .if2 .left) _ (d .take-file .ensures)
+    let e = d .before .before .before in
+    let k = e .before .before in
+    delete-done (start k .pre) (image-bytes k) (fits k) (file e) _ (d .take-file .ensures)
 
 pub serve-delete-spec : {M : Type 1} → statement M
 serve-delete-spec =
     tie.close
     (tie.spec
-    is-locked-requires
-    returns
-    lookup-requires
+    changeable-requires
     enum-known-number
     enum-known-e
-    file-locked-requires
-    same-length
-    returns-2
     take-file-requires
+    same-length
+    returns
     same-length-2
-    returns-3
-    same-length-3
-    returns-4)
+    returns-2)

@@ -1,46 +1,52 @@
 -- `serve_write` meets its contract. Assumes nothing.
-use mathlib.Core.Path.{_≡_, sym, _∙_}
-use mathlib.Core.Bool.{false}
 use native.Mathlib.Omega.{arith}
 use denote.Ref.{now}
 use lib.ListN.{length}
-use Rattle.model.specs.Bytes.{byte}
-use Rattle.model.specs.Directory.{flagsLock}
-use Rattle.model.specs.Facts.{isLocked}
-use Rattle.directory.specs.Cursor.{bytesAt}
-use Rattle.files.specs.Lookup.{Found, Held}
+use Rattle.model.specs.Bytes.{Bytes}
+use Rattle.model.specs.Calls.{Fits}
+use Rattle.model.specs.Calls.Call.{write}
+use Rattle.files.specs.Lookup.{Changeable}
 use Rattle.files.proofs.Octets.{octets}
-use Rattle.files.proofs.Lookups.{names-file, names-none}
 use Rattle.files.proofs.Forks.{large-block, small-block}
+use Rattle.files.proofs.Refusing.{write-changing, changed-file, changed-none, refused}
 use Rattle.forks.proofs.Growing.{grows-free}
-use Rattle.call_write.proofs.Written.{Asked, write-locked, write-missed, write-file-locked, write-beyond, write-full, write-served}
+use Rattle.call_write.proofs.Written.{write-fits, write-beyond, write-full, write-served}
 use borrow.Author.Needs.{needs}
 use Rattle.call_write.proofs.write.serve_write.Statement.{statement}
 use Rattle.call_write.proofs.write.serve_write.Tie as tie
 
-asked : (c : tie.After-shared-slice-known2) → let a = c .before .before .before .args in Asked (a .f) (now (a .image)) (now (a .name)) (a .offset) (now (a .bytes)) (a .changed)
-asked c = record {
-  readable = c .before .before .before .pre;
-  octets = octets _ (c .before .before .slice-known .given);
-  letters = octets _ (c .before .shared-slice-known .given);
-  place = omega (arith, c .before .before .before .fits .offset);
-  content = octets _ (c .shared-slice-known2 .given);
-  date = omega (arith, c .before .before .before .fits .changed);
-}
+-- the arguments
+module _ (c : tie.After-changeable) where
+  abbrev start : tie.Start
+  start = c .before .before .before .before .before
 
-is-locked-requires : tie.Need-is-locked-requires
-is-locked-requires c κs = search needs
+  image-bytes : Bytes (now (start .args .image))
+  image-bytes = octets _ (c .before .before .before .before .slice-known .given)
 
-returns : tie.Need-returns
-returns c =
-    let l = c .before in
-    write-locked (asked (l .before)) (c .before .before .before .before .before .args .fork) (sym (l .is-locked .ensures) ∙ c .if1 .taken)
+  fits : Fits (write (now (start .args .name)) (start .args .fork) (start .args .offset) (now (start .args .bytes)) (start .args .changed))
+  fits =
+      write-fits (now (start .args .name)) (start .args .fork) (start .args .offset) (now (start .args .bytes)) (start .args .changed)
+      (octets _ (c .before .before .before .shared-slice-known .given)) (omega (arith, start .fits .offset))
+      (octets _ (c .before .before .shared-slice-known2 .given)) (omega (arith, start .fits .changed))
 
-writable : (c : tie.Else1) → isLocked (c .before .before .before .before .before .args .f) ≡ false
-writable c = sym (c .before .is-locked .ensures) ∙ c .if1 .left
+-- the file that may be changed
+file : (c : tie.After-e) → let a = start (c .before .before) .args in
+    Changeable (now (a .image)) (now (a .name)) (c .e .given .0 .0) (c .e .given .0 .1 .0)
+file c =
+    let k = c .before .before in
+    let a = start k .args in
+    changed-file (now (a .image)) (now (a .name)) (k .changeable .result) (k .changeable .ensures) _ _ (c .e .given .1)
 
-lookup-requires : tie.Need-lookup-requires
-lookup-requires c κs = search needs
+-- its entry, at the reading of its fork
+abbrev at-entry : tie.After-read-fork → tie.After-e
+at-entry c = c .before .before .before
+
+-- the fork was read, at the count of its new blocks
+abbrev at-fork : tie.After-new-blocks → tie.After-read-fork
+at-fork c = c .before .before .before
+
+changeable-requires : tie.Need-changeable-requires
+changeable-requires c κs = search needs
 
 enum-known-number : tie.Need-enum-known-number
 enum-known-number c = search needs
@@ -48,122 +54,93 @@ enum-known-number c = search needs
 enum-known-e : tie.Need-enum-known-e
 enum-known-e c = search needs
 
--- the file that the name names
-file : (c : tie.After-e) → let a = c .before .before .before .before .before .before .before .before .before .args in Found (now (a .image)) (now (a .name)) (c .e .given .0 .0) (c .e .given .0 .1 .0)
-file c =
-    let l = c .before .before in
-    let a = l .before .before .before .before .before .before .before .args in
-    names-file (now (a .image)) (now (a .name)) (l .lookup .result) (l .lookup .ensures) _ _ (c .e .given .1)
+read-fork-requires : tie.Need-read-fork-requires
+read-fork-requires c κs = file (c .before .before) .found .there .stands
 
-file-locked-requires : tie.Need-file-locked-requires
-file-locked-requires c κs = file (c .before .before) .there .stands
+cast-if1 : tie.Need-cast-if1
+cast-if1 c = search needs
 
 same-length : tie.Need-same-length
 same-length c = search needs
 
-returns-2 : tie.Need-returns-2
-returns-2 c =
-    let x = c .before in
-    let e = x .before .before .before in
-    let o = e .before .before .before .before in
-    write-file-locked (asked (o .before .before)) (c .before .before .before .before .before .before .before .before .before .before .before .before .before .args .fork) (writable o) _ _ (file e) (sym (x .file-locked .ensures) ∙ c .if2 .taken)
+returns : tie.Need-returns
+returns c =
+    let g = c .before .before in
+    let e = at-entry g in
+    let k = e .before .before in
+    write-beyond (start k .pre) (file e) (start k .args .fork) (g .read-fork .result) (g .read-fork .ensures) (image-bytes k) (fits k) (c .if1 .taken)
 
-read-fork-requires : tie.Need-read-fork-requires
-read-fork-requires c κs = file (c .before .before .before .before .before) .there .stands
-
-cast-if3 : tie.Need-cast-if3
-cast-if3 c = search needs
+new-blocks-requires : tie.Need-new-blocks-requires
+new-blocks-requires c κs =
+    let s = start (at-entry (c .before .before) .before .before) in
+    (large-block (s .pre), small-block (s .pre), c .if1 .left)
 
 same-length-2 : tie.Need-same-length-2
 same-length-2 c = search needs
 
-unlocked : (c : tie.Else2) → let e = c .before .before .before .before in flagsLock (byte (bytesAt (now (c .before .before .before .before .before .before .before .before .before .before .before .before .before .args .image)) (e .e .given .0 .1 .0)) 0) ≡ false
-unlocked c = sym (c .before .file-locked .ensures) ∙ c .if2 .left
-
-returns-3 : tie.Need-returns-3
-returns-3 c =
-    let x = c .before .before in
-    let u = x .before .before in
-    let e = u .before .before .before .before in
-    let o = e .before .before .before .before in
-    write-beyond (asked (o .before .before)) (c .before .before .before .before .before .before .before .before .before .before .before .before .before .before .before .before .before .args .fork) (writable o) _ _ (file e) (unlocked u) (x .read-fork .result) (x .read-fork .ensures) (c .if3 .taken)
-
-new-blocks-requires : tie.Need-new-blocks-requires
-new-blocks-requires c κs = let s = c .before .before .before .before .before .before .before .before .before .before .before .before .before .before .before .before .before in (large-block (s .pre), small-block (s .pre), c .if3 .left)
-
-same-length-3 : tie.Need-same-length-3
-same-length-3 c = search needs
-
-returns-4 : tie.Need-returns-4
-returns-4 c =
+returns-2 : tie.Need-returns-2
+returns-2 c =
     let n = c .before .before in
-    let x = n .before .before .before in
-    let u = x .before .before in
-    let e = u .before .before .before .before in
-    let o = e .before .before .before .before in
-    write-full (asked (o .before .before)) (c .before .before .before .before .before .before .before .before .before .before .before .before .before .before .before .before .before .before .before .before .args .fork) (writable o) _ _ (file e) (unlocked u) (x .read-fork .result) (x .read-fork .ensures)
-    (n .before .if3 .left) (n .new-blocks .result) (n .new-blocks .ensures) (c .if4 .taken)
-
--- the file's entry in the image
-abbrev entry : (c : tie.After-e) → let a = c .before .before .before .before .before .before .before .before .before .args in Held (a .f) (now (a .image)) (c .e .given .0 .1 .0)
-entry c = record { readable = c .before .before .before .before .before .before .before .before .before .pre; name = now (c .before .before .before .before .before .before .before .before .before .args .name); place = c .e .given .0 .0; found = file c }
+    let g = at-fork n in
+    let e = at-entry g in
+    let k = e .before .before in
+    write-full (start k .pre) (file e) (start k .args .fork) (g .read-fork .result) (g .read-fork .ensures) (image-bytes k) (fits k)
+    (n .before .if1 .left) (n .new-blocks .result) (n .new-blocks .ensures) (c .if2 .taken)
 
 grow-fork-requires : tie.Need-grow-fork-requires
 grow-fork-requires c κs =
     let n = c .before .before .before in
-    let x = n .before .before .before in
-    let e = x .before .before .before .before .before .before in
-    let a = e .before .before .before .before .before .before .before .before .before .args in
-    let m = grows-free (a .f) (x .read-fork .result) (a .offset) (length (now (a .bytes))) (n .new-blocks .result) (n .new-blocks .ensures) (c .before .if4 .left) in
-    (record { held = entry e; is = x .read-fork .ensures }, (n .before .if3 .left, m .0, omega (arith, m)))
+    let g = at-fork n in
+    let e = at-entry g in
+    let s = start (e .before .before) in
+    let m = grows-free (s .args .f) (g .read-fork .result) (s .args .offset) (length (now (s .args .bytes))) (n .new-blocks .result)
+    (n .new-blocks .ensures) (c .before .if2 .left) in (
+      record { held = record { readable = s .pre; name = now (s .args .name); place = _; found = file e .found }; is = g .read-fork .ensures },
+      (n .before .if1 .left, m .0, omega (arith, m)),
+    )
+
+same-length-3 : tie.Need-same-length-3
+same-length-3 c = search needs
+
+returns-3 : tie.Need-returns-3
+returns-3 c =
+    let n = c .before in
+    let k = n .before .before in
+    let a = start k .args in
+    refused (start k .pre) (image-bytes k)
+    (write-changing (now (a .image)) (now (a .name)) (a .fork) (a .offset) (now (a .bytes)) (a .changed)) (fits k) _
+    (changed-none (now (a .image)) (now (a .name)) (k .changeable .result) (k .changeable .ensures) _ (n .number .given .1))
 
 same-length-4 : tie.Need-same-length-4
 same-length-4 c = search needs
 
-returns-5 : tie.Need-returns-5
-returns-5 c =
-    let n = c .before in
-    let l = n .before .before in
-    let o = l .before .before in
-    let a = o .before .before .before .before .before .args in
-    write-missed (asked (o .before .before)) (a .fork) (writable o) _ (names-none (now (a .image)) (now (a .name)) (l .lookup .result) (l .lookup .ensures) _ (n .number .given .1))
-
-same-length-5 : tie.Need-same-length-5
-same-length-5 c = search needs
-
-returns-6 : tie.Need-returns-6
-returns-6 c =
+returns-4 : tie.Need-returns-4
+returns-4 c =
     let w = c .before .before in
     let y = w .before .before in
     let n = y .before .before in
-    let x = n .before .before .before in
-    let u = x .before .before in
-    let e = u .before .before .before .before in
-    let o = e .before .before .before .before in
-    write-served (asked (o .before .before)) (c .before .before .before .before .before .before .before .before .before .before .before .before .before .before .before .before .before .before .before .before .before .before .before .before .args .fork) (writable o) _ _ (file e) (unlocked u) (x .read-fork .result) (x .read-fork .ensures)
-    (n .before .if3 .left) (n .new-blocks .result) (n .new-blocks .ensures) (y .if4 .left) _ (w .grow-fork .ensures (entry e))
+    let g = at-fork n in
+    let e = at-entry g in
+    let k = e .before .before in
+    write-served (start k .pre) (file e) (start k .args .fork) (g .read-fork .result) (g .read-fork .ensures) (image-bytes k) (fits k)
+    (n .before .if1 .left) (n .new-blocks .result) (n .new-blocks .ensures) (y .if2 .left) _ (w .grow-fork .ensures)
 
 pub serve-write-spec : {M : Type 1} → statement M
 serve-write-spec =
     tie.close
     (tie.spec
-    is-locked-requires
-    returns
-    lookup-requires
+    changeable-requires
     enum-known-number
     enum-known-e
-    file-locked-requires
-    same-length
-    returns-2
     read-fork-requires
-    cast-if3
-    same-length-2
-    returns-3
+    cast-if1
+    same-length
+    returns
     new-blocks-requires
-    same-length-3
-    returns-4
+    same-length-2
+    returns-2
     grow-fork-requires
+    same-length-3
+    returns-3
     same-length-4
-    returns-5
-    same-length-5
-    returns-6)
+    returns-4)
