@@ -15,9 +15,9 @@ use Rattle.model.specs.Calls.{hasRoom, newEntry, filled, withFiles, withNext, c
 use Rattle.model.proofs.Lists.{any-append}
 use Rattle.laws.proofs.Entry.{new-length, new-sound}
 use Rattle.laws.proofs.Blocks.{Cleans}
-use Rattle.history.proofs.BytesKept.{files-few}
+use Rattle.laws.proofs.Acceptance.{readable-of}
+use Rattle.laws.proofs.BytesKept.{files-few}
 use Rattle.laws.proofs.DirectorySteps.{clean-now}
-use Rattle.history.proofs.Joined.{readable-of}
 use Rattle.directory.specs.Cursor.{Begins}
 use Rattle.entries.specs.Blocks.{Block}
 use Rattle.entries.specs.Rooms.{HasRoom}

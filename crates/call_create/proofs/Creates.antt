@@ -13,7 +13,7 @@ use Rattle.model.specs.Directory.{padded, cutBlocks, directoryBlocks, directory
 use Rattle.model.specs.Check.{orElse}
 use Rattle.model.specs.Calls.{Does, Fits, nameOf, forkGiven, badName, refuses, knownIn, hasRoom, change, lent, reply}
 use Rattle.model.specs.Calls.Call.{create}
-use Rattle.history.proofs.Answers.{GoodName, good-name}
+use Rattle.laws.proofs.Refusals.{GoodName, good-name}
 use Rattle.directory.specs.Cursor.{Begins}
 use Rattle.entries.specs.Rooms.{HasRoom, Roomy}
 use Rattle.model.specs.declared.VolumeFacts.{VolumeFacts}

@@ -18,9 +18,9 @@ use Rattle.model.proofs.Map.{length-chain}
 use Rattle.laws.proofs.Content.{fewest-least}
 use Rattle.laws.proofs.MapSteps.{forkWith, afterCut, cut-frame}
 use Rattle.laws.proofs.DirectorySteps.{Based}
-use Rattle.history.proofs.Reading.{area}
-use Rattle.history.proofs.Joined.{based}
-use Rattle.history.proofs.Rewrites.{theEntry, around, beyond, passes-there}
+use Rattle.laws.proofs.Acceptance.{area}
+use Rattle.laws.proofs.TheEntry.{theEntry, around, beyond, passes-there}
+use Rattle.laws.proofs.Bases.{based}
 use Rattle.directory.specs.Cursor.{Stands}
 use Rattle.entries.proofs.Stored.{fields}
 use Rattle.model.specs.declared.VolumeFacts.{VolumeFacts}

@@ -18,9 +18,9 @@ use Rattle.laws.proofs.Joins.{InMap, part-once, putFree-other}
 use Rattle.laws.proofs.MapChecks.{lists, parted}
 use Rattle.laws.proofs.MapSteps.{bothBlocks, delete-frame}
 use Rattle.laws.proofs.DirectorySteps.{Based}
-use Rattle.history.proofs.Reading.{area}
-use Rattle.history.proofs.Joined.{based}
-use Rattle.history.proofs.Rewrites.{it-alone, theEntry, passes-there}
+use Rattle.laws.proofs.Acceptance.{area}
+use Rattle.laws.proofs.TheEntry.{it-alone, theEntry, passes-there}
+use Rattle.laws.proofs.Bases.{based}
 use Rattle.blockmap.proofs.Linking.{chain-keep}
 use Rattle.directory.specs.Cursor.{bytesAt, Stands, Lies}
 use Rattle.entries.specs.Blocks.{Block, Removes}

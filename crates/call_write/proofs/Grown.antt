@@ -23,9 +23,9 @@ use Rattle.laws.proofs.Content.{fewest-holds}
 use Rattle.laws.proofs.MapChecks.{lists, parted}
 use Rattle.laws.proofs.MapSteps.{forkWith, blocksAfter, afterWrite, new-count, write-frame}
 use Rattle.laws.proofs.DirectorySteps.{Based}
-use Rattle.history.proofs.Reading.{area}
-use Rattle.history.proofs.Joined.{based}
-use Rattle.history.proofs.Rewrites.{theEntry, the-entry, around, beyond, passes-there}
+use Rattle.laws.proofs.Acceptance.{area}
+use Rattle.laws.proofs.TheEntry.{theEntry, the-entry, around, beyond, passes-there}
+use Rattle.laws.proofs.Bases.{based}
 use Rattle.model.specs.declared.VolumeFacts.{VolumeFacts}
 use Rattle.model.specs.declared.Fork.{Fork}
 use Rattle.model.specs.declared.ForkFacts.{ForkFacts}

@@ -14,7 +14,8 @@ use Rattle.model.specs.Directory.{directory, named, forkOf}
 use Rattle.model.specs.Check.{SoundFork}
 use Rattle.model.specs.Calls.{entryNamed}
 use Rattle.model.proofs.Map.{chain-runs}
-use Rattle.history.proofs.Answers.{first-found, sound-fork}
+use Rattle.laws.proofs.Reorder.{first-found}
+use Rattle.laws.proofs.Acceptance.{sound-fork}
 use Rattle.blockmap.specs.Places.{HasPlace}
 use Rattle.blockmap.proofs.Marks.{sound-most}
 use Rattle.directory.specs.Cursor.{bytesAt}

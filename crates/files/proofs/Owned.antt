@@ -11,9 +11,9 @@ use Rattle.model.specs.Calls.{entryNamed}
 use Rattle.model.proofs.Map.{chain-runs}
 use Rattle.model.proofs.Check.{fork-good}
 use Rattle.laws.proofs.Chains.{length-forkBlocks, good}
-use Rattle.history.proofs.Answers.{first-found}
-use Rattle.history.proofs.Rewrites.{theEntry, the-entry}
-use Rattle.history.proofs.BytesKept.{named-counts}
+use Rattle.laws.proofs.Reorder.{first-found}
+use Rattle.laws.proofs.TheEntry.{theEntry, the-entry}
+use Rattle.laws.proofs.BytesKept.{named-counts}
 use Rattle.directory.specs.Cursor.{bytesAt}
 use Rattle.model.specs.declared.VolumeFacts.{VolumeFacts}
 use Rattle.model.specs.declared.Fork.{Fork}

@@ -17,8 +17,8 @@ use Rattle.model.specs.Calls.{forkBytes, readCount, copied, change, only, lent,
 use Rattle.model.specs.Calls.Call.{entry, find, block, read}
 use Rattle.model.proofs.Check.{accepted-verdict}
 use Rattle.laws.proofs.Calls.{by-own, does-refuse, does-serve}
-use Rattle.history.proofs.Answers.{own-is, named-length}
-use Rattle.history.proofs.Reading.{lengths}
+use Rattle.laws.proofs.Refusals.{own-is}
+use Rattle.laws.proofs.Acceptance.{named-length, lengths}
 use Rattle.blockmap.specs.Places.{IsPlace}
 use Rattle.directory.specs.Cursor.{bytesAt}
 use Rattle.directory.specs.Search.{Placed}

@@ -21,8 +21,7 @@ use Rattle.model.proofs.Map.{block-low, block-high, runs-block, runs-rest, chai
 use Rattle.model.proofs.Check.{good-fork, fork-good, fork-block}
 use Rattle.laws.proofs.Chains.{good}
 use Rattle.laws.proofs.Content.{Inside, length-bytes, part-take}
-use Rattle.history.proofs.Answers.{sound-fork}
-use Rattle.history.proofs.Reading.{area}
+use Rattle.laws.proofs.Acceptance.{sound-fork, area}
 use Rattle.blockmap.specs.Places.{HasPlace, IsPlace}
 use Rattle.blockmap.proofs.Chains.{chain-most}
 use Rattle.forks.specs.Content.{Copyable}

@@ -1,70 +1,43 @@
--- On an accepted image that reads as a history, a call's refusal and answer are the history's; what each test of a changing call
--- that is not refused has shown; and the image that a call leaves, by its refusal.
-use Prim.Native.Nat.{ℕ, zero, suc, _+_, _-_, _*_, _≤_, _<_, max}
+-- On an accepted image that reads as a history, a call's refusal and answer are the history's.
+use Prim.Native.Nat.{ℕ, zero, suc, _-_, _*_, _≤_, _<_}
 use mathlib.Core.Path.{_≡_, refl, sym, ap, subst, _∙_}
-use mathlib.Core.Bool.{Bool, true, false, not, _&&_, _||_, cond}
-use mathlib.Core.List.{List, [], _∷_, _++_}
-use mathlib.Core.Logic.{_↔_}
+use mathlib.Core.Bool.{Bool, true, false, not, _&&_, cond}
+use mathlib.Core.List.{List, []}
 use native.Mathlib.Omega.{arith}
-use native.Mathlib.Nat.{div-add-mod', zero-div}
-use native.Mathlib.Decide.{ℕ-discrete}
-use lib.ListN.{length, getD, length-append, length-map, length-take, length-drop}
+use native.Mathlib.Nat.{zero-div}
+use lib.ListN.{length, getD, length-map}
 use lib.Dec.{eqb, leb, ltb, eqb·suc-zero}
-use borrow.Author.Tests.{not-false, eqb-true, eqb-false, eq-eqb, ne-eqb, ltb-true, ltb-false, lt-ltb, le-ltb, leb-false}
-use Rattle.model.specs.Lists.{every, any, distinct, first, placeOf}
-use Rattle.model.specs.Bytes.{byte, be16, be32, firstOf}
+use borrow.Author.Tests.{not-false, eqb-true, eq-eqb, ne-eqb, ltb-true, ltb-false, lt-ltb, le-ltb, leb-false}
+use Rattle.model.specs.Lists.{any, distinct, first, placeOf}
+use Rattle.model.specs.Bytes.{byte, be16, be32}
 use Rattle.model.specs.Facts.{factsOf, dirStart, dirLength, N, A, S, nextNumber, freeCount, isLocked, withCounts, noFacts}
-use Rattle.model.specs.Map.{mapEntry}
-use Rattle.model.specs.Directory.{padded, entrySize, directoryBlocks, directory, numberIn, nameIn, finderIn, forkIn, forkOf, wide, entryIn}
-use Rattle.model.specs.Directory.{noEntry, flagsLock, forksIn, blockCount, sameName, named}
-use Rattle.model.specs.Check.{orElse, verdict, goodNumber, fires7, sameNumbers, sameNames, SoundEntry, SoundFork, forkAt, Accepted}
-use Rattle.model.specs.Calls.{Call, nameOf, forkGiven, Known, grown, needed, badName, refuses, entryNamed, hasRoom, knownIn, refusal, forkBytes}
+use Rattle.model.specs.Directory.{directory, numberIn, nameIn, finderIn, forkIn, forkOf, wide, entryIn}
+use Rattle.model.specs.Directory.{noEntry, flagsLock, blockCount, sameName, named}
+use Rattle.model.specs.Check.{orElse, sameNumbers, sameNames, Accepted}
+use Rattle.model.specs.Calls.{Call, nameOf, forkGiven, Known, grown, needed, badName, refuses, entryNamed, knownIn, refusal, forkBytes}
 use Rattle.model.specs.Calls.{readCount, copied, change, only, tellsFacts, tellsEntry, tellsBlock, tellsBytes, reply, lent, answer, after}
 use Rattle.model.specs.Calls.Call.{check, entry, find, block, read, create, write, cut, delete}
 use Rattle.history.specs.History.{Held, File, History, empty, noFile, heldOf, freeOf, factsNow, called, fileCalled, knownTo, declines, unplaced}
 use Rattle.history.specs.History.{withoutStarts, toldBy, lengthsOf, entryOf, toldOnly, fileNumbered, says, tells, heldIn, fileIn, filesIn, Agrees}
-use Rattle.history.specs.History.{asked, writes, moves, step, changes, rise, NoRoom, RoomRule}
-use Rattle.model.specs.Bytes.{overwritten}
+use Rattle.history.specs.History.{asked, writes, moves, step, changes, rise, RoomRule}
 use Rattle.model.specs.declared.VolumeFacts.{VolumeFacts}
 use Rattle.model.specs.declared.Fork.{Fork}
 use Rattle.model.specs.declared.Fork.the-variants.{Data, Resource}
-use Rattle.model.proofs.Lists.{and-true, or-false, reordered-any, reordered-length}
+use Rattle.model.proofs.Lists.{reordered-any, reordered-length}
 use Rattle.model.proofs.Names.{eqb-comm, same-name-comm, same-name-trans}
-use Rattle.model.proofs.Check.{else-zero, accepted-passes, verdict-accepted, accepted-verdict}
-use Rattle.laws.proofs.Reorder.{first-same, first-map, first-at, any-map, distinct-map}
-
--- ---- the first that passes
-
-module _ {X : Type 0} (p : X → Bool) (d : X) where
-  -- where one passes, it is the one at its place
-  pub first-found : (xs : List X) → any p xs ≡ true → (placeOf p xs < length xs) × (getD xs (placeOf p xs) d ≡ first p d xs)
-  unfolding any first placeOf
-  first-found [] h = absurd (let z : _≡_ {A = ℕ} 0 1 = cc in omega arith)
-  first-found (x ∷ xs) h = go (p x) h (first-found xs)
-    where
-      go : (b : Bool) → (b || any p xs) ≡ true → (any p xs ≡ true → (placeOf p xs < length xs) × (getD xs (placeOf p xs) d ≡ first p d xs))
-          → (cond b 0 (suc (placeOf p xs)) < suc (length xs)) × (getD (x ∷ xs) (cond b 0 (suc (placeOf p xs))) d ≡ cond b x (first p d xs))
-      go true e ih = (omega arith, refl)
-      go false e ih = let r = ih e in (omega (arith, r .0), r .1)
-
-  pub first-none : (xs : List X) → any p xs ≡ false → first p d xs ≡ d
-  unfolding any first
-  first-none [] h = refl
-  first-none (x ∷ xs) h = let s = or-false (p x) (any p xs) h in rw (s .0) (first-none xs (s .1))
+use Rattle.model.proofs.Check.{else-zero}
+use Rattle.laws.proofs.Reorder.{first-same, first-map, first-at, first-found, any-map, distinct-map}
+use Rattle.laws.proofs.Kept.{numbers-differ}
+use Rattle.laws.proofs.DirectorySteps.{names-now}
+use Rattle.laws.proofs.Content.{length-overwritten}
+use Rattle.laws.proofs.Refusals.{own-is, no-check, other, past, fires}
+use Rattle.laws.proofs.Acceptance.{readable-of, whole, Lengths, name-length, named-length}
 
 -- ---- a call's number and what it leaves
 
 either-way : (t : Bool) (image : List ℕ) → cond t image image ≡ image
 either-way true image = refl
 either-way false image = refl
-
-pub refused : (call : Call) (image : List ℕ) → (refusal call image ≡ 0 → ⊥) → after call image ≡ image
-unfolding after
-refused call image z = rw (ne-eqb (refusal call image) 0 z)
-
-pub done : (call : Call) (image : List ℕ) → refusal call image ≡ 0 → after call image ≡ change call image
-unfolding after
-done call image z = rw (eq-eqb (refusal call image) 0 z)
 
 -- a refused call and one that only reads change nothing
 pub still : (call : Call) (image : List ℕ) → (changes call && eqb (refusal call image) 0) ≡ false → after call image ≡ image
@@ -140,29 +113,7 @@ fed (delete name) k = refl
 
 -- ---- refusal 17
 
--- no other number is 17
-no-check : _≡_ {A = ℕ} 0 17 → ⊥
-no-check e = omega arith
-
-other : (t : Bool) (k : ℕ) → eqb k 17 ≡ false → {r : ℕ} → (r ≡ 17 → ⊥) → orElse t k r ≡ 17 → ⊥
-other true k n h e = eqb-false k 17 n e
-other false k n h e = h e
-
--- a test before 17 that did not fire, and 17 itself
-past : (t : Bool) (k r : ℕ) → eqb k 17 ≡ false → orElse t k r ≡ 17 → (t ≡ false) × (r ≡ 17)
-past true k r n e = absurd (eqb-false k 17 n e)
-past false k r n e = (refl, e)
-
-fires : (t : Bool) → orElse t 17 0 ≡ 17 → t ≡ true
-fires true e = refl
-fires false e = absurd (omega arith)
-
--- the fork's bytes after a write, and the new blocks that they need
-pub length-overwritten : (old : List ℕ) (o : ℕ) (xs : List ℕ) → o ≤ length old → length (overwritten old o xs) ≡ max (length old) (o + length xs)
-unfolding overwritten
-length-overwritten old o xs h =
-    simp (length-append, length-append, length-take, length-drop) (omega arith)
-
+-- the new blocks that a write needs
 pub rise-needed : (a o : ℕ) (xs : List ℕ) (g : Held) → o ≤ length (g .bytes)
     → rise a o xs g ≡ needed a (grown (length (g .bytes)) o (length xs)) (g .count)
 unfolding rise writes needed grown
@@ -217,159 +168,6 @@ room-declines h full (delete name) =
     let k = knownTo h full name Data in
     other (k .locked) 11 refl (other (badName name) 12 refl (other (not (k .exists)) 13 refl
     (other (k .fileLocked) 15 refl no-check)))
-
--- ---- what a call that is not refused has shown
-
--- a name of 1 to 255 bytes
-pub record GoodName (name : List ℕ) : Type 0 where
-  pub some : 1 ≤ length name
-  pub short : length name ≤ 255
-
-pub good-name : (name : List ℕ) → badName name ≡ false → GoodName name
-unfolding badName
-good-name name h =
-    let s = or-false (eqb (length name) 0) (ltb 255 (length name)) h in
-    let z = eqb-false (length name) 0 (s .0) in
-    record { some = omega arith; short = ltb-false 255 (length name) (s .1) }
-
--- create
-pub record MayCreate (image name : List ℕ) : Type 0 where
-  pub unlocked : isLocked (factsOf image) ≡ false
-  pub title : GoodName name
-  pub fresh : any (named name) (directory image) ≡ false
-  pub number : nextNumber (factsOf image) ≡ 4294967295 → ⊥
-  pub room : any (hasRoom (padded (51 + length name))) (directoryBlocks (factsOf image) image) ≡ true
-
--- write, cut and delete: the file is there, and neither it nor the volume is locked
-pub record MayChange (image name : List ℕ) : Type 0 where
-  pub unlocked : isLocked (factsOf image) ≡ false
-  pub title : GoodName name
-  pub exists : any (named name) (directory image) ≡ true
-  pub fileUnlocked : flagsLock (byte (entryNamed name image) 0) ≡ false
-
-pub record MayWrite (image name : List ℕ) (fork : Fork) (offset count : ℕ) : Type 0 where
-  pub file : MayChange image name
-  pub within : offset ≤ forkOf fork (entryNamed name image) .logical
-  pub room :
-      needed (A (factsOf image)) (grown (forkOf fork (entryNamed name image) .logical) offset count)
-      (blockCount (A (factsOf image)) (forkOf fork (entryNamed name image)))
-      ≤ freeCount (factsOf image)
-
-pub record MayCut (image name : List ℕ) (fork : Fork) (size : ℕ) : Type 0 where
-  pub file : MayChange image name
-  pub within : size ≤ forkOf fork (entryNamed name image) .logical
-
--- the first number is 0 where the answer is
-first-zero : (m n : ℕ) → firstOf m n ≡ 0 → (m ≡ 0) × (n ≡ 0)
-unfolding firstOf
-first-zero zero n h = (refl, h)
-first-zero (suc m) n h = absurd (omega arith)
-
-module _ (image : List ℕ) where
-  -- a call that is not refused was made on an accepted image
-  pub done-accepted : (call : Call) → refusal call image ≡ 0 → Accepted image
-  unfolding refusal
-  done-accepted call z = verdict-accepted image (first-zero (verdict image) _ z .0)
-
-  own-zero : (call : Call) → refusal call image ≡ 0 → refuses call (knownIn image (nameOf call) (forkGiven call)) ≡ 0
-  unfolding refusal
-  own-zero call z = first-zero (verdict image) _ z .1
-
-  pub may-create : (name finder : List ℕ) (created changed : ℕ) → refusal (create name finder created changed) image ≡ 0 → MayCreate image name
-  unfolding refuses knownIn nameOf forkGiven
-  may-create name finder created changed z =
-      let f = factsOf image in
-      let p₁ = else-zero (isLocked f) 10 _ (own-zero (create name finder created changed) z) in
-      let p₂ = else-zero (badName name) 11 _ (p₁ .1) in
-      let p₃ = else-zero (any (named name) (directory image)) 13 _ (p₂ .1) in
-      let p₄ = else-zero (eqb (nextNumber f) 4294967295) 18 _ (p₃ .1) in
-      let p₅ = else-zero (not (any (hasRoom (padded (51 + length name))) (directoryBlocks f image))) 17 0 (p₄ .1) in
-      record {
-        unlocked = p₁ .0;
-        title = good-name name (p₂ .0);
-        fresh = p₃ .0;
-        number = eqb-false (nextNumber f) 4294967295 (p₄ .0);
-        room = not-false _ (p₅ .0);
-      }
-
-  -- the tests that write, cut and delete share, and what stands behind them
-  may-change : (name : List ℕ) (r : ℕ)
-      → orElse (isLocked (factsOf image)) 11 (orElse (badName name) 12 (orElse (not (any (named name) (directory image))) 13
-      (orElse (flagsLock (byte (entryNamed name image) 0)) 15 r))) ≡ 0
-      → MayChange image name × (r ≡ 0)
-  may-change name r z =
-      let p₁ = else-zero (isLocked (factsOf image)) 10 _ z in
-      let p₂ = else-zero (badName name) 11 _ (p₁ .1) in
-      let p₃ = else-zero (not (any (named name) (directory image))) 12 _ (p₂ .1) in
-      let p₄ = else-zero (flagsLock (byte (entryNamed name image) 0)) 14 r (p₃ .1) in
-      (record { unlocked = p₁ .0; title = good-name name (p₂ .0); exists = not-false _ (p₃ .0); fileUnlocked = p₄ .0 }, p₄ .1)
-
-  pub may-write : (name : List ℕ) (fork : Fork) (offset : ℕ) (bytes : List ℕ) (changed : ℕ)
-      → refusal (write name fork offset bytes changed) image ≡ 0 → MayWrite image name fork offset (length bytes)
-  unfolding refuses knownIn nameOf forkGiven
-  may-write name fork offset bytes changed z =
-      let f = factsOf image in
-      let g = forkOf fork (entryNamed name image) in
-      let need = needed (A f) (grown (g .logical) offset (length bytes)) (blockCount (A f) g) in
-      let s = may-change name _ (own-zero (write name fork offset bytes changed) z) in
-      let p₅ = else-zero (ltb (g .logical) offset) 15 _ (s .1) in
-      let p₆ = else-zero (ltb (freeCount f) need) 16 0 (p₅ .1) in
-      record { file = s .0; within = ltb-false (g .logical) offset (p₅ .0); room = ltb-false (freeCount f) need (p₆ .0) }
-
-  pub may-cut : (name : List ℕ) (fork : Fork) (size changed : ℕ) → refusal (cut name fork size changed) image ≡ 0 → MayCut image name fork size
-  unfolding refuses knownIn nameOf forkGiven
-  may-cut name fork size changed z =
-      let g = forkOf fork (entryNamed name image) in
-      let s = may-change name _ (own-zero (cut name fork size changed) z) in
-      let p₅ = else-zero (ltb (g .logical) size) 15 0 (s .1) in
-      record { file = s .0; within = ltb-false (g .logical) size (p₅ .0) }
-
-  pub may-delete : (name : List ℕ) → refusal (delete name) image ≡ 0 → MayChange image name
-  unfolding refuses knownIn nameOf forkGiven
-  may-delete name z = may-change name 0 (own-zero (delete name) z) .0
-
--- ---- the forks of an accepted image
-
--- each fork of an entry is one of all the forks
-fork-place : (es : List (List ℕ)) (i : ℕ) → i < length es → (fork : Fork) → (j : ℕ) × (j < length (forksIn es)) × (forkAt (forksIn es) j ≡ forkOf fork (getD es i []))
-unfolding forksIn
-fork-place [] i l fork = absurd (omega arith)
-fork-place (e ∷ es) zero l Data = (0, omega arith, refl)
-fork-place (e ∷ es) zero l Resource = (1, omega arith, refl)
-fork-place (e ∷ es) (suc i) l fork = let r = fork-place es i (omega arith) fork in (suc (suc (r .0)), omega (arith, r .1), r .2)
-
-module _ (image : List ℕ) (acc : Accepted image) where
-  pub own-is : (call : Call) → refusal call image ≡ refuses call (knownIn image (nameOf call) (forkGiven call))
-  unfolding refusal firstOf
-  own-is call = rw (accepted-verdict image acc)
-
-  pub sound-fork : (i : ℕ) → i < length (directory image) → (fork : Fork)
-      → SoundFork (mapEntry image) (N (factsOf image)) (A (factsOf image)) (forkOf fork (getD (directory image) i []))
-  sound-fork i l fork = let r = fork-place (directory image) i l fork in rw (r .2) at (acc .blocks .forks (r .0) (r .1))
-
-  -- a fork's physical length is its blocks
-  pub whole : (i : ℕ) → i < length (directory image) → (fork : Fork)
-      → blockCount (A (factsOf image)) (forkOf fork (getD (directory image) i [])) * A (factsOf image) ≡ forkOf fork (getD (directory image) i []) .physical
-  unfolding blockCount
-  whole i l fork =
-      let g = forkOf fork (getD (directory image) i []) in
-      let a = A (factsOf image) in
-      let s = sound-fork i l fork in
-      let d = div-add-mod' (g .physical) a in
-      elim (ℕ-discrete (g .start .0) 0) [
-        | yes q ↦ omega (arith, d, s .empty q .1)
-        | no q ↦ omega (arith, d, s .whole q)
-      ]
-
-  -- no two entries have the same number, and no two the same name
-  differ : (distinct sameNumbers (directory image) ≡ true) × (distinct sameNames (directory image) ≡ true)
-  unfolding fires7
-  differ =
-      let f = factsOf image in
-      let es = directory image in
-      let a = and-true (eqb (length es) (f .files)) _ (not-false _ (accepted-passes image acc .pass7)) in
-      let b = and-true (every (goodNumber (nextNumber f)) es) _ (a .1) in
-      and-true (distinct sameNumbers es) (distinct sameNames es) (b .1)
 
 -- ---- an image that reads as a history
 
@@ -441,6 +239,13 @@ held-is f image e Resource = refl
 
 -- the files
 module _ (image : List ℕ) (h : History) (acc : Accepted image) (a : Agrees image h) where
+  -- no two entries have the same number, and no two the same name
+  numbers : distinct sameNumbers (directory image) ≡ true
+  numbers = let r = readable-of image acc in numbers-differ (factsOf image .files) (nextNumber (factsOf image)) (directory image) (r .pass6) (r .pass7)
+
+  names : distinct sameNames (directory image) ≡ true
+  names = names-now image (readable-of image acc)
+
   pub same-first : (name : List ℕ) → fileIn (factsOf image) image (entryNamed name image) ≡ fileCalled name h
   unfolding entryNamed fileCalled filesIn named called fileIn
   same-first name =
@@ -448,7 +253,7 @@ module _ (image : List ℕ) (h : History) (acc : Accepted image) (a : Agrees ima
       let same : File → File → Bool = λ x y. sameName (x .name) (y .name) in
       first-map tell (named name) (called name) (λ e. refl) [] (directory image)
       ∙ first-same same (λ x y. same-name-comm (x .name) (y .name)) (called name) (λ x y. both (x .name) (y .name)) (tell []) (a .files)
-      (distinct-map same sameNames tell (λ d e. refl) (directory image) ∙ differ image acc .1)
+      (distinct-map same sameNames tell (λ d e. refl) (directory image) ∙ names)
       ∙ ap (λ (d : File). first (called name) d (h .files)) (no-file (factsOf image) image)
     where
       both : (m n : List ℕ) → sameName name m ≡ true → sameName name n ≡ true → sameName m n ≡ true
@@ -462,35 +267,15 @@ module _ (image : List ℕ) (h : History) (acc : Accepted image) (a : Agrees ima
       let n = numberIn (getD (directory image) place []) in
       let same : File → File → Bool = λ x y. eqb (x .number) (y .number) in
       let numbered : File → Bool = λ x. eqb (x .number) n in
-      ap tell (sym (first-at sameNumbers (λ e. eq-eqb (numberIn e) (numberIn e) refl) [] (directory image) place l (differ image acc .0)))
+      ap tell (sym (first-at sameNumbers (λ e. eq-eqb (numberIn e) (numberIn e) refl) [] (directory image) place l (numbers)))
       ∙ first-map tell (λ e. eqb (numberIn e) n) numbered (λ e. refl) [] (directory image)
       ∙ first-same same (λ x y. eqb-comm (x .number) (y .number)) numbered
       (λ x y p q. eq-eqb (x .number) (y .number) (eqb-true (x .number) n p ∙ sym (eqb-true (y .number) n q))) (tell []) (a .files)
-      (distinct-map same sameNumbers tell (λ d e. refl) (directory image) ∙ differ image acc .0)
+      (distinct-map same sameNumbers tell (λ d e. refl) (directory image) ∙ numbers)
       ∙ ap (λ (d : File). first numbered d (h .files)) (no-file (factsOf image) image)
 
   pub same-held : (name : List ℕ) (fork : Fork) → heldIn (factsOf image) image (forkOf fork (entryNamed name image)) ≡ heldOf fork (fileCalled name h)
   same-held name fork = sym (held-is (factsOf image) image (entryNamed name image) fork) ∙ ap (heldOf fork) (same-first name)
-
--- ---- the lengths of forks
-
--- each fork has as many bytes as its logical length
-abbrev pub Lengths : List ℕ → Type 0
-Lengths image =
-    (i : ℕ) → i < length (directory image) → (fork : Fork)
-    → length (forkBytes (S (factsOf image)) (A (factsOf image)) image (forkOf fork (getD (directory image) i [])))
-    ≡ forkOf fork (getD (directory image) i []) .logical
-
--- an entry's name is as long as its length byte says
-pub name-length : (next : ℕ) (e : List ℕ) → SoundEntry next e → length (nameIn e) ≡ byte e 50
-unfolding nameIn entrySize padded
-name-length next e s = simp (length-take, length-drop) (omega (arith, s .within))
-
--- no bytes have no fork
-no-length : (f : VolumeFacts) (image : List ℕ) (fork : Fork) → length (forkBytes (S f) (A f) image (forkOf fork [])) ≡ forkOf fork [] .logical
-unfolding forkBytes forkOf forkIn be32 be16
-no-length f image Data = refl
-no-length f image Resource = refl
 
 -- what a refusal tells of an entry has no start
 no-starts : withoutStarts noEntry ≡ noEntry
@@ -500,21 +285,6 @@ no-starts = refl
 only-told : (n : ℕ) (buffer : List ℕ) → toldBy (only n buffer) ≡ toldOnly n buffer
 unfolding toldBy only toldOnly
 only-told n buffer = λ i. record { number = n; facts = noFacts; entry = no-starts i; count = 0; buffer = buffer }
-
-module _ (image : List ℕ) (lengths : Lengths image) where
-  pub named-length : (name : List ℕ) (fork : Fork)
-      → length (forkBytes (S (factsOf image)) (A (factsOf image)) image (forkOf fork (entryNamed name image))) ≡ forkOf fork (entryNamed name image) .logical
-  unfolding entryNamed
-  named-length name fork = go (any (named name) (directory image)) refl
-    where
-      Right : List ℕ → Type 0
-      Right e = length (forkBytes (S (factsOf image)) (A (factsOf image)) image (forkOf fork e)) ≡ forkOf fork e .logical
-
-      go : (b : Bool) → any (named name) (directory image) ≡ b → Right (first (named name) [] (directory image))
-      go true e =
-          let r = first-found (named name) [] (directory image) e in
-          subst Right (r .1) (lengths (placeOf (named name) (directory image)) (r .0) fork)
-      go false e = subst Right (sym (first-none (named name) [] (directory image) e)) (no-length (factsOf image) image fork)
 
 module _ (image : List ℕ) (h : History) (acc : Accepted image) (a : Agrees image h) (lengths : Lengths image) where
   -- what is known

@@ -1,15 +1,15 @@
 -- What the auditor asks, from the claim on every run: a file that no call names stays, a delete touches no other file, "disk
 -- full" means no room, a read gives what was written, and no list of calls falls out of the claim.
-use Prim.Native.Nat.{ℕ, zero, suc, _+_, _-_, _≤_, _<_}
+use Prim.Native.Nat.{ℕ, _+_, _-_, _≤_, _<_}
 use mathlib.Core.Path.{_≡_, refl, sym, ap, subst, _∙_}
-use mathlib.Core.Bool.{Bool, true, false, not, _&&_, _||_, cond}
-use mathlib.Core.List.{List, [], _∷_, _++_, map, append-assoc, append-nil}
+use mathlib.Core.Bool.{Bool, true, false, not, _&&_, cond}
+use mathlib.Core.List.{List, [], _∷_, _++_, append-assoc, append-nil}
 use native.Mathlib.Omega.{arith}
-use lib.ListN.{length, getD, take, drop, length-append, List·getD-append}
-use lib.Seq.{length-take-le, drop-append-le, drop-length, take-append-seam}
+use lib.ListN.{length, drop, length-append}
+use lib.Seq.{drop-length}
 use lib.Dec.{eqb, ltb}
 use borrow.Author.Tests.{not-false, eqb-true, eq-eqb, ltb-false, le-ltb}
-use Rattle.model.specs.Lists.{any, keep, first, flat, Reordered, none, next, swap, then}
+use Rattle.model.specs.Lists.{any, flat, none}
 use Rattle.model.specs.Bytes.{Bytes, part}
 use Rattle.model.specs.Facts.{factsOf, N, A, freeCount}
 use Rattle.model.specs.Map.{mapEntry}
@@ -31,12 +31,13 @@ use Rattle.history.specs.EveryList.{made, AllFit, EveryList}
 use Rattle.model.specs.declared.Fork.{Fork}
 use Rattle.model.specs.declared.Fork.the-variants.{Data, Resource}
 use Rattle.model.proofs.Lists.{back}
-use Rattle.laws.proofs.Reorder.{any-map}
 use Rattle.model.proofs.Check.{else-zero}
-use Rattle.laws.proofs.Content.{drop-take}
+use Rattle.laws.proofs.Reorder.{any-map, passes-still, first-changed, In, in-reordered, in-map, in-keep, in-append}
+use Rattle.laws.proofs.Content.{length-overwritten, more-bytes, length-on}
 use Rattle.laws.proofs.MapChecks.{all-blocks}
-use Rattle.history.proofs.Answers.{length-overwritten, rise-needed, same-free, known-same}
-use Rattle.history.proofs.Reading.{map-passes, lengths, blocks-of}
+use Rattle.laws.proofs.Acceptance.{map-passes, lengths}
+use Rattle.history.proofs.Answers.{rise-needed, same-free, known-same}
+use Rattle.history.proofs.Reading.{blocks-of}
 use Rattle.history.proofs.Run.{every-run}
 
 -- the claim on a list of one event
@@ -45,51 +46,6 @@ unfolding EveryRun Run Holds
 one-step e image acc m = let h : Holds image (reading image) (e ∷ []) = every-run image (e ∷ []) acc (m, tt) .1 in h .0
 
 -- ---- Untouched and Deleting
-
--- an element that a list has at some place is in the list in another order, in its map where the map leaves it, among those kept
--- where it is kept, and in a longer list
-module _ {A : Type 0} (d x : A) where
-  abbrev In : List A → Type 0
-  In xs = (i : ℕ) × (i < length xs) × (getD xs i d ≡ x)
-
-  later : (y : A) (xs : List A) → In xs → In (y ∷ xs)
-  later y xs h = (suc (h .0), omega (arith, h .1), h .2)
-
-  in-reordered : {xs ys : List A} → Reordered xs ys → In xs → In ys
-  in-reordered r h = go r (h .0) (h .1) (h .2)
-    where
-      go : {xs ys : List A} → Reordered xs ys → (i : ℕ) → i < length xs → getD xs i d ≡ x → In ys
-      go none i l e = (i, l, e)
-      go (next y r) zero l e = (0, omega arith, e)
-      go (next y {xs} {ys} r) (suc i) l e = later y ys (go r i (omega arith) e)
-      go (swap y z xs) zero l e = (1, omega arith, e)
-      go (swap y z xs) (suc zero) l e = (0, omega arith, e)
-      go (swap y z xs) (suc (suc i)) l e = (suc (suc i), l, e)
-      go (then r s) i l e = let k = go r i l e in go s (k .0) (k .1) (k .2)
-
-  in-map : (f : A → A) → f x ≡ x → (xs : List A) → In xs → In (map f xs)
-  in-map f w xs h = go xs (h .0) (h .1) (h .2)
-    where
-      go : (xs : List A) (i : ℕ) → i < length xs → getD xs i d ≡ x → In (map f xs)
-      go [] i l e = absurd (omega arith)
-      go (y ∷ xs) zero l e = (0, omega arith, ap f e ∙ w)
-      go (y ∷ xs) (suc i) l e = later (f y) (map f xs) (go xs i (omega arith) e)
-
-  in-keep : (p : A → Bool) → p x ≡ true → (xs : List A) → In xs → In (keep p xs)
-  unfolding keep
-  in-keep p w xs h = go xs (h .0) (h .1) (h .2)
-    where
-      kept : (y : A) (xs : List A) (b : Bool) → In (keep p xs) → In (cond b (y ∷ keep p xs) (keep p xs))
-      kept y xs true h = later y (keep p xs) h
-      kept y xs false h = h
-
-      go : (xs : List A) (i : ℕ) → i < length xs → getD xs i d ≡ x → In (keep p xs)
-      go [] i l e = absurd (omega arith)
-      go (y ∷ xs) zero l e = rw (ap p e ∙ w) (0, omega arith, e)
-      go (y ∷ xs) (suc i) l e = kept y xs (p y) (go xs i (omega arith) e)
-
-  in-append : (xs ys : List A) → In xs → In (xs ++ ys)
-  in-append xs ys h = (h .0, omega (arith, h .1, length-append xs ys), List·getD-append xs ys d (h .0) (h .1) ∙ h .2)
 
 -- a file that no changing call names stays in the history
 not-called : (name : List ℕ) (f : File → File) (x : File) → called name x ≡ false → onCalled name f x ≡ x
@@ -190,45 +146,6 @@ told-number h full n call = go (declines h full call) (eqb (declines h full call
 declined : (e : Event) (image : List ℕ) (h : History) → Step e image h → e .given .number ≡ declines h (isFull e) (e .call)
 unfolding toldBy
 declined e image h s = ap (λ (t : Told). t .number) (s .told) ∙ told-number h (isFull e) (asked image (e .call)) (e .call)
-
--- the first that passes, where a map changes those that pass into others that pass
-module _ {A : Type 0} (p : A → Bool) (f : A → A) (w : (x : A) → p (f x) ≡ p x) where
-  passes-still : (x : A) → p (cond (p x) (f x) x) ≡ p x
-  passes-still x = go (p x) refl
-    where
-      go : (b : Bool) → p x ≡ b → p (cond b (f x) x) ≡ p x
-      go true e = w x
-      go false e = refl
-
-  first-changed : (d : A) (xs : List A) → any p xs ≡ true → first p d (map (λ x. cond (p x) (f x) x) xs) ≡ f (first p d xs)
-  unfolding any first
-  first-changed d [] h = absurd (let z : _≡_ {A = ℕ} 0 1 = cc in omega arith)
-  first-changed d (x ∷ xs) h = rw (passes-still x) (go (p x) h (first-changed d xs))
-    where
-      go : (b : Bool) → (b || any p xs) ≡ true
-          → (any p xs ≡ true → first p d (map (λ x. cond (p x) (f x) x) xs) ≡ f (first p d xs))
-          → cond b (cond b (f x) x) (first p d (map (λ x. cond (p x) (f x) x) xs)) ≡ f (cond b x (first p d xs))
-      go true h ih = refl
-      go false h ih = ih h
-
--- bytes put behind those that a fork has from o on
-more-bytes : (old : List ℕ) (o : ℕ) (sofar xs : List ℕ) → o + length sofar ≤ length old → part o (length sofar) old ≡ sofar
-    → part o (length (sofar ++ xs)) (overwritten old (o + length sofar) xs) ≡ sofar ++ xs
-unfolding overwritten
-more-bytes old o sofar xs l e =
-    let q = o + length sofar in
-    let rest = drop (q + length xs) old in
-    let front : length (take q old) ≡ q = length-take-le q old l in
-    let k : q - o ≡ length sofar = omega arith in
-    let behind : drop o (take q old ++ (xs ++ rest)) ≡ (sofar ++ xs) ++ rest =
-    drop-append-le o (take q old) (xs ++ rest) (omega arith)
-    ∙ ap (λ (z : List ℕ). z ++ (xs ++ rest)) (drop-take o q old ∙ ap (λ (i : ℕ). take i (drop o old)) k ∙ e)
-    ∙ sym (append-assoc sofar xs rest) in
-    ap (take (length (sofar ++ xs))) behind ∙ take-append-seam (sofar ++ xs) rest
-
--- the end of the bytes so far, after a piece more
-length-on : (o q : ℕ) (sofar xs : List ℕ) → o + length sofar ≡ q → o + length (sofar ++ xs) ≡ q + length xs
-length-on o q sofar xs p = omega (arith, length-append sofar xs, p)
 
 -- one fork of one file
 module _ (name : List ℕ) (fork : Fork) where

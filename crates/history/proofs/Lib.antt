@@ -6,6 +6,5 @@ pub mod Writes
 pub mod Cuts
 pub mod Deletes
 pub mod Creates
-pub mod BytesKept
 pub mod Run
 pub mod Corollaries

@@ -1,102 +1,26 @@
--- How an accepted image reads as facts and files: its forks entry by entry, the blocks that its files have, and what makes an
--- image accepted and agree with a history.
-use Prim.Native.Nat.{ℕ, zero, suc, _+_, _-_, _*_, _/_, _≤_, _<_}
-use mathlib.Core.Path.{_≡_, refl, sym, ap, ap₂, subst, _∙_}
-use mathlib.Core.Bool.{Bool, true, false}
-use mathlib.Core.List.{List, [], _∷_, _++_, map}
+-- How an accepted image reads as facts and files: the blocks that its files have, what makes an image agree with a history, and
+-- files whose forks keep their bytes.
+use Prim.Native.Nat.{ℕ, _+_, _-_}
+use mathlib.Core.Path.{_≡_, refl, sym, ap, ap₂, _∙_}
+use mathlib.Core.List.{List, [], _∷_, _++_, map, map-append}
 use native.Mathlib.Omega.{arith}
-use lib.ListN.{length, getD, length-map}
+use lib.ListN.{length, length-map}
 use Rattle.model.specs.Lists.{Reordered, none, next, swap, then}
 use Rattle.model.specs.Bytes.{byte, be32}
 use Rattle.model.specs.Facts.{factsOf, N, A, S, nextNumber, freeCount, withCounts}
 use Rattle.model.specs.Map.{mapEntry}
 use Rattle.model.specs.Directory.{directory, numberIn, nameIn, finderIn, forkOf, forksIn, blockCount}
-use Rattle.model.specs.Check.{fires6, fires7, SoundFacts, Accepted}
+use Rattle.model.specs.Check.{Accepted}
 use Rattle.model.specs.Calls.{forkBytes}
-use Rattle.history.specs.History.{Held, File, History, blocksOf, freeOf, factsNow, heldIn, fileIn, filesIn, reading, Agrees}
+use Rattle.history.specs.History.{File, History, blocksOf, freeOf, factsNow, heldIn, fileIn, filesIn, reading, Agrees}
 use Rattle.model.specs.declared.VolumeFacts.{VolumeFacts}
 use Rattle.model.specs.declared.ForkFacts.{ForkFacts}
-use Rattle.model.specs.declared.Fork.{Fork}
 use Rattle.model.specs.declared.Fork.the-variants.{Data, Resource}
 use Rattle.model.proofs.Lists.{same-list, reordered-length}
-use Rattle.model.proofs.Check.{Passes, passes-accepted, accepted-passes, facts-pass1, facts-pass2, facts-pass3, facts-pass4}
-use Rattle.laws.proofs.Sound.{Each}
-use Rattle.laws.proofs.MapChecks.{MapPasses, blockCounts, all-blocks, sound-passes}
-use Rattle.laws.proofs.MapSteps.{Area, sound-area, fork-lengths}
-use Rattle.history.proofs.Answers.{Lengths}
-
--- ---- forks
-
-pub forks-append : (es fs : List (List ℕ)) → forksIn (es ++ fs) ≡ forksIn es ++ forksIn fs
-unfolding forksIn
-forks-append [] fs = refl
-forks-append (e ∷ es) fs = rw (forks-append es fs)
-
--- what holds of each fork holds of both forks of the entry at a place
-pub forks-each : (P : ForkFacts → Type 0) (es : List (List ℕ)) → Each P (forksIn es) → (i : ℕ) → i < length es → (fork : Fork) → P (forkOf fork (getD es i []))
-unfolding forksIn Each
-forks-each P [] h i l fork = absurd (omega arith)
-forks-each P (e ∷ es) h zero l Data = h .0
-forks-each P (e ∷ es) h zero l Resource = h .1 .0
-forks-each P (e ∷ es) h (suc i) l fork = forks-each P es (h .1 .1) i (omega arith) fork
-
--- ---- an accepted image
-
-pub area : (image : List ℕ) → Accepted image → Area (S (factsOf image)) (A (factsOf image)) (N (factsOf image)) image
-area image acc = sound-area (factsOf image) image (acc .facts)
-
-pub map-passes : (image : List ℕ) → Accepted image
-    → MapPasses (mapEntry image) (N (factsOf image)) (A (factsOf image)) (freeCount (factsOf image)) (forksIn (directory image))
-map-passes image acc = sound-passes (mapEntry image) (N (factsOf image)) (A (factsOf image)) (freeCount (factsOf image)) (forksIn (directory image)) (acc .blocks)
-
-pub lengths : (image : List ℕ) → Accepted image → Lengths image
-lengths image acc =
-    let f = factsOf image in
-    forks-each (λ g. length (forkBytes (S f) (A f) image g) ≡ g .logical) (directory image)
-    (fork-lengths (S f) (A f) (N f) (freeCount f) image (area image acc) (forksIn (directory image)) (map-passes image acc))
-
--- other counts leave checks 1 to 4 as they are, but for the next file number
-counted-facts : (f : VolumeFacts) (size files number free : ℕ) → SoundFacts f size → 1 ≤ number → SoundFacts (withCounts f files number free) size
-unfolding withCounts
-counted-facts f size files number free s p = record {
-  whole = s .whole;
-  many = s .many;
-  few = s .few;
-  signed = s .signed;
-  multiple = s .multiple;
-  large = s .large;
-  small = s .small;
-  some = s .some;
-  most = s .most;
-  dirSome = s .dirSome;
-  dirMost = s .dirMost;
-  dirBehind = s .dirBehind;
-  dirBefore = s .dirBefore;
-  backup = s .backup;
-  numbered = p;
-  title = s .title;
-}
-
--- an image is accepted where it has the facts of an accepted one with other counts, and its directory and map pass
-pub accepted-from : (image left : List ℕ) (es : List (List ℕ)) (files number free : ℕ) → Accepted image → length left ≡ length image
-    → factsOf left ≡ withCounts (factsOf image) files number free → directory left ≡ es → fires6 es ≡ false → fires7 files number es ≡ false → 1 ≤ number
-    → MapPasses (mapEntry left) (N (factsOf image)) (A (factsOf image)) free (forksIn es) → Accepted left
-unfolding withCounts
-accepted-from image left es files number free acc l f d p6 p7 some m =
-    let s : SoundFacts (factsOf left) (length left) = rw (f, l) (counted-facts (factsOf image) (length image) files number free (acc .facts) some) in
-    passes-accepted left
-    (record {
-      pass1 = facts-pass1 (factsOf left) (length left) s;
-      pass2 = facts-pass2 (factsOf left) (length left) s;
-      pass3 = facts-pass3 (factsOf left) (length left) s;
-      pass4 = facts-pass4 (factsOf left) (length left) s;
-      pass5 = rw f (m .pass5);
-      pass6 = rw d p6;
-      pass7 = rw (f, d) p7;
-      pass8 = rw (f, d) (m .pass8);
-      pass9 = rw (f, d) (m .pass9);
-      pass10 = rw f (m .pass10);
-    })
+use Rattle.laws.proofs.Sound.{Each, each-same}
+use Rattle.laws.proofs.MapChecks.{blockCounts, all-blocks}
+use Rattle.laws.proofs.MapSteps.{Changed}
+use Rattle.laws.proofs.Acceptance.{map-passes}
 
 -- ---- the blocks of files
 
@@ -168,18 +92,19 @@ file-same f g image left e s a d r = λ i. record {
   resource = record { bytes = (ap₂ (λ x y. forkBytes x y left (forkOf Resource e)) s a ∙ r) i; count = blockCount (a i) (forkOf Resource e) };
 }
 
--- what two reads give of each fork of a list
-pub each-same : {A B : Type 0} (f g : A → B) (xs : List A) → map f xs ≡ map g xs → Each (λ x. f x ≡ g x) xs
-unfolding Each
-each-same f g [] h = tt
-each-same f g (x ∷ xs) h =
-    let p : f x ≡ g x = cc in
-    let q : map f xs ≡ map g xs = cc in
-    (p, each-same f g xs q)
-
 pub files-same : (f g : VolumeFacts) (image left : List ℕ) (es : List (List ℕ)) → S g ≡ S f → A g ≡ A f
     → Each (λ x. forkBytes (S f) (A f) left x ≡ forkBytes (S f) (A f) image x) (forksIn es) → map (fileIn g left) es ≡ map (fileIn f image) es
 unfolding forksIn Each
 files-same f g image left [] s a h = refl
 files-same f g image left (e ∷ es) s a h =
     ap₂ (λ (x : File) (xs : List File). x ∷ xs) (file-same f g image left e s a (h .0) (h .1 .0)) (files-same f g image left es s a (h .1 .1))
+
+-- the files of entries around a change, of whose forks the change leaves the bytes
+pub files-around : (f : VolumeFacts) (n free : ℕ) (image left : List ℕ) (p q es : List (List ℕ)) (now : List ForkFacts) → es ≡ p ++ q
+    → Changed (S f) (A f) n free image left (forksIn p) now (forksIn q) → map (fileIn f left) es ≡ map (fileIn f image) es
+files-around f n free image left p q es now e c =
+    let before : List ℕ → ForkFacts → List ℕ = forkBytes (S f) (A f) in
+    let x = files-same f f image left p refl refl (each-same (before left) (before image) (forksIn p) (c .bytesBefore)) in
+    let y = files-same f f image left q refl refl (each-same (before left) (before image) (forksIn q) (c .bytesBehind)) in
+    ap (map (fileIn f left)) e ∙ map-append (fileIn f left) p q ∙ (λ i. x i ++ y i)
+    ∙ sym (map-append (fileIn f image) p q) ∙ sym (ap (map (fileIn f image)) e)

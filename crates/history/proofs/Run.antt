@@ -1,30 +1,29 @@
 -- Every list of calls from an accepted image keeps step with its history.
-use Prim.Native.Nat.{ℕ, zero, suc, _+_, _-_, _*_, _≤_, _<_}
+use Prim.Native.Nat.{ℕ, _-_}
 use mathlib.Core.Path.{_≡_, refl, sym, ap, subst, _∙_}
-use mathlib.Core.Bool.{Bool, true, false, _&&_}
-use mathlib.Core.List.{List, [], _∷_, _++_}
+use mathlib.Core.List.{List, [], _∷_}
 use native.Mathlib.Omega.{arith}
 use native.Mathlib.Decide.{ℕ-discrete}
-use lib.ListN.{length}
 use lib.Dec.{eqb}
 use Rattle.model.specs.Bytes.{Bytes}
-use Rattle.model.specs.Facts.{factsOf, dirStart, dirLength}
 use Rattle.model.specs.Check.{Accepted}
-use Rattle.model.specs.Calls.{Call, refusal, change, after, answer, Fits, Does}
-use Rattle.history.specs.History.{History, moves, step, tells, toldBy, asked, Agrees, reading, Event, Run, isFull, OnlyNamed, changes, RoomRule, Step, Holds, EveryRun}
+use Rattle.model.specs.Calls.{Call, refusal, change, Fits, Does}
+use Rattle.history.specs.History.{History, moves, step, tells, toldBy, asked, Agrees, reading, Event, Run, isFull, OnlyNamed, RoomRule, Step, Holds, EveryRun}
 use Rattle.model.specs.Calls.Call.{check, entry, find, block, read, create, write, cut, delete}
 use Rattle.model.specs.declared.Fork.{Fork}
-use Rattle.history.proofs.Answers.{refused, done, still, number-is, step-refused, step-done, room-rule, same-told, may-create, may-write, may-cut, may-delete}
-use Rattle.history.proofs.Reading.{lengths, starts}
-use Rattle.history.proofs.BytesKept.{created-bytes, written-bytes, shortened-bytes, deleted-bytes}
-use Rattle.history.proofs.Writes.{write-accepted, write-agrees, write-kept}
-use Rattle.history.proofs.Cuts.{cut-accepted, cut-agrees, cut-kept}
-use Rattle.history.proofs.Deletes.{delete-accepted, delete-agrees, delete-kept}
-use Rattle.history.proofs.Creates.{create-accepted, create-agrees, create-kept}
-use Rattle.history.proofs.Writes.{is-left as write-left}
-use Rattle.history.proofs.Cuts.{is-left as cut-left}
-use Rattle.history.proofs.Deletes.{is-left as delete-left}
-use Rattle.history.proofs.Creates.{is-left as create-left}
+use Rattle.laws.proofs.Refusals.{refused, done, may-create, may-write, may-cut, may-delete}
+use Rattle.laws.proofs.Acceptance.{lengths}
+use Rattle.laws.proofs.BytesKept.{created-bytes, written-bytes, shortened-bytes, deleted-bytes}
+use Rattle.laws.proofs.Creates.{create-accepted, is-left as create-left}
+use Rattle.laws.proofs.Writes.{write-accepted, is-left as write-left}
+use Rattle.laws.proofs.Cuts.{cut-accepted, is-left as cut-left}
+use Rattle.laws.proofs.Deletes.{delete-accepted, is-left as delete-left}
+use Rattle.history.proofs.Answers.{still, number-is, step-refused, step-done, room-rule, same-told}
+use Rattle.history.proofs.Reading.{starts}
+use Rattle.history.proofs.Writes.{write-agrees, write-kept}
+use Rattle.history.proofs.Cuts.{cut-agrees, cut-kept}
+use Rattle.history.proofs.Deletes.{delete-agrees, delete-kept}
+use Rattle.history.proofs.Creates.{create-agrees, create-kept}
 
 -- what a change that is not refused does
 pub record Done (call : Call) (image : List ℕ) (h : History) : Type 0 where

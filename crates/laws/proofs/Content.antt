@@ -6,8 +6,9 @@ use Prim.Native.Nat.{ℕ, zero, suc, _+_, _-_, _*_, _/_, _≤_, _<_, max}
 use native.Mathlib.Omega.{arith}
 use native.Mathlib.Decide.{decLt}
 use native.Mathlib.Nat.{zero-mul, sub-zero, zero-sub, suc-sub-suc, mul-le-mul-right, div-add-mod', mod-lt, div-lt-iff-lt-mul, le-of-suc-le-suc}
-use lib.ListN.{length, getD, set, take, drop, length-append, length-drop}
-use lib.Seq.{sets, paste, getD-set-other, take-nil, take-at, drop-at, drop-drop, take-add, take-length, length-paste-head, take-take, take-append-le, take-append-add, length-take-le, length-paste, drop-paste, take-all, getD-take, getD-drop}
+use lib.ListN.{length, getD, take, drop, length-append, length-take, length-drop}
+use lib.Seq.{paste, take-nil, take-at, drop-at, drop-drop, take-add, take-length, length-paste-head, take-take}
+use lib.Seq.{take-append-le, take-append-add, take-append-seam, drop-append-le, length-take-le, length-paste, drop-paste, take-all, getD-take, getD-drop}
 use Rattle.model.specs.Lists.{times}
 use Rattle.model.specs.Bytes.{byte, part, half}
 use Rattle.model.specs.Facts.{blockByte}
@@ -141,7 +142,8 @@ module _ (s a : ℕ) where
   blocks-apart x y h k ne = elim (decLt x y) [ yes z ↦ inl (lower x y h z) | no z ↦ inr (lower y x k (omega arith)) ]
 
   -- the bytes of the blocks are those of each
-  pub bytes-same : (l m bs : List ℕ) → ((b : ℕ) → 1 ≤ times b bs → part (blockByte s a b) a l ≡ part (blockByte s a b) a m) → bytesOf s a l bs ≡ bytesOf s a m bs
+  pub bytes-same : (l m bs : List ℕ) → ((b : ℕ) → 1 ≤ times b bs → part (blockByte s a b) a l ≡ part (blockByte s a b) a m)
+      → bytesOf s a l bs ≡ bytesOf s a m bs
   unfolding bytesOf
   bytes-same l m [] h = refl
   bytes-same l m (b ∷ bs) h = ap₂ (λ x y. x ++ y) (h b (omega (arith, times-head b bs))) (bytes-same l m bs (λ x p. h x (omega (arith, times-tail x b bs))))
@@ -199,7 +201,8 @@ module _ (s a : ℕ) where
 -- ---- a fork's bytes
 
 -- the first bytes of what was put at o, up to the new logical length
-pub overwritten-taken : (c : List ℕ) (o m : ℕ) (xs : List ℕ) → o ≤ m → m ≤ length c → take (max m (o + length xs)) (paste c o xs (length xs)) ≡ overwritten (take m c) o xs
+pub overwritten-taken : (c : List ℕ) (o m : ℕ) (xs : List ℕ) → o ≤ m → m ≤ length c
+    → take (max m (o + length xs)) (paste c o xs (length xs)) ≡ overwritten (take m c) o xs
 unfolding overwritten
 overwritten-taken c o m xs h k =
     let n = length xs in
@@ -207,13 +210,40 @@ overwritten-taken c o m xs h k =
     ap (λ i. take i (paste c o xs n)) e ∙ take-append-add (take o c ++ take n xs) (drop (o + n) c) (m - (o + n))
     ∙ rw (take-take o m c h, drop-take (o + n) m c, take-length xs, append-assoc)
 
+-- how long a fork's bytes are after a write
+pub length-overwritten : (old : List ℕ) (o : ℕ) (xs : List ℕ) → o ≤ length old → length (overwritten old o xs) ≡ max (length old) (o + length xs)
+unfolding overwritten
+length-overwritten old o xs h =
+    simp (length-append, length-append, length-take, length-drop) (omega arith)
+
+-- bytes put behind those that a fork has from o on
+pub more-bytes : (old : List ℕ) (o : ℕ) (sofar xs : List ℕ) → o + length sofar ≤ length old → part o (length sofar) old ≡ sofar
+    → part o (length (sofar ++ xs)) (overwritten old (o + length sofar) xs) ≡ sofar ++ xs
+unfolding overwritten
+more-bytes old o sofar xs l e =
+    let q = o + length sofar in
+    let rest = drop (q + length xs) old in
+    let front : length (take q old) ≡ q = length-take-le q old l in
+    let k : q - o ≡ length sofar = omega arith in
+    let behind : drop o (take q old ++ (xs ++ rest)) ≡ (sofar ++ xs) ++ rest =
+    drop-append-le o (take q old) (xs ++ rest) (omega arith)
+    ∙ ap (λ (z : List ℕ). z ++ (xs ++ rest)) (drop-take o q old ∙ ap (λ (i : ℕ). take i (drop o old)) k ∙ e)
+    ∙ sym (append-assoc sofar xs rest) in
+    ap (take (length (sofar ++ xs))) behind ∙ take-append-seam (sofar ++ xs) rest
+
+-- the end of the bytes so far, after a piece more
+pub length-on : (o q : ℕ) (sofar xs : List ℕ) → o + length sofar ≡ q → o + length (sofar ++ xs) ≡ q + length xs
+length-on o q sofar xs p = omega (arith, length-append sofar xs, p)
+
 -- the bytes of blocks lie behind 512·S
 pub bytes-drop : (s a q : ℕ) (l m bs : List ℕ) → q ≤ 512 * s → drop q l ≡ drop q m → bytesOf s a l bs ≡ bytesOf s a m bs
 bytes-drop s a q l m bs h e = bytes-same s a l m bs λ b p. ap (take a) (same-drop q (blockByte s a b) l m (omega arith) e)
 
 -- cut: the first n bytes of the fork are those of the blocks that are kept
-pub bytes-cut : (s a : ℕ) (l bs r : List ℕ) (n m : ℕ) → n ≤ m → n ≤ length (bytesOf s a l bs) → take n (bytesOf s a l bs) ≡ take n (take m (bytesOf s a l (bs ++ r)))
-bytes-cut s a l bs r n m h k = sym (rw (take-take n m (bytesOf s a l (bs ++ r)) h, bytes-append s a l bs r, take-append-le n (bytesOf s a l bs) (bytesOf s a l r) k))
+pub bytes-cut : (s a : ℕ) (l bs r : List ℕ) (n m : ℕ) → n ≤ m → n ≤ length (bytesOf s a l bs)
+    → take n (bytesOf s a l bs) ≡ take n (take m (bytesOf s a l (bs ++ r)))
+bytes-cut s a l bs r n m h k =
+    sym (rw (take-take n m (bytesOf s a l (bs ++ r)) h, bytes-append s a l bs r, take-append-le n (bytesOf s a l bs) (bytesOf s a l r) k))
 
 -- ---- the fewest blocks
 

@@ -18,3 +18,13 @@ pub mod Places
 pub mod Image
 pub mod DirectorySteps
 pub mod Calls
+pub mod Refusals
+pub mod Acceptance
+pub mod TheEntry
+pub mod Bases
+pub mod Rewrites
+pub mod Writes
+pub mod Cuts
+pub mod Deletes
+pub mod Creates
+pub mod BytesKept

@@ -1,14 +1,15 @@
--- Laws of lists that the directory needs: tests under a map, the first that passes a test, the only one that does, and files
--- that are the history's in some order.
+-- Laws of lists that the directory needs: tests under a map, the first that passes a test, the only one that does, files that are
+-- the history's in some order, and an element that stays in a list.
 use Prim.Native.Nat.{ℕ, zero, suc, _<_}
 use mathlib.Core.Path.{_≡_, refl, sym, ap, _∙_}
 use mathlib.Core.Bool.{Bool, true, false, not, _&&_, _||_, cond}
 use mathlib.Core.List.{List, [], _∷_, _++_, map, append-nil, map-append}
 use native.Mathlib.Omega.{arith}
-use lib.ListN.{length, getD}
+use lib.ListN.{length, getD, length-append, List·getD-append}
 use borrow.Author.Tests.{not-true}
-use Rattle.model.specs.Lists.{every, any, distinct, keep, first, Reordered, none, next, swap, then}
-use Rattle.model.proofs.Lists.{and-true, or-false, so-not, any-append, any-at, keep-append, keep-all, back, middle, reordered-map, reordered-keep, keep-map, reordered-distinct}
+use Rattle.model.specs.Lists.{every, any, distinct, keep, first, placeOf, Reordered, none, next, swap, then}
+use Rattle.model.proofs.Lists.{and-true, or-false, so-not, any-append, any-at, keep-append, keep-all, back, middle, reordered-map}
+use Rattle.model.proofs.Lists.{reordered-keep, keep-map, reordered-distinct}
 
 -- ---- tests
 
@@ -49,7 +50,8 @@ module _ {A : Type 0} where
   any-split p [] h = absurd (let z : _≡_ {A = ℕ} 0 1 = cc in omega arith)
   any-split p (y ∷ xs) h = go (p y) refl h (any-split p xs)
     where
-      go : (t : Bool) → p y ≡ t → (t || any p xs) ≡ true → (any p xs ≡ true → (a : List A) × (x : A) × (b : List A) × (xs ≡ a ++ (x ∷ b)) × (any p a ≡ false) × (p x ≡ true))
+      go : (t : Bool) → p y ≡ t → (t || any p xs) ≡ true
+          → (any p xs ≡ true → (a : List A) × (x : A) × (b : List A) × (xs ≡ a ++ (x ∷ b)) × (any p a ≡ false) × (p x ≡ true))
           → (a : List A) × (x : A) × (b : List A) × (y ∷ xs ≡ a ++ (x ∷ b)) × (any p a ≡ false) × (p x ≡ true)
       go true e h ih = ([], y, xs, refl, refl, e)
       go false e h ih = let s = ih h in (y ∷ s .0, s .1, s .2, ap (λ (r : List A). y ∷ r) (s .3), rw (e, s .4), s .5)
@@ -131,7 +133,8 @@ module _ {A : Type 0} where
     unfolding keep
     alone-keep =
         ap (keep (λ x. not (p x))) (o .whole)
-        ∙ rw (keep-append (λ x. not (p x)) (o .before) (o .it ∷ o .behind), o .passes, keep-all p (o .before) (o .noneBefore), keep-all p (o .behind) (o .noneBehind))
+        ∙ rw (keep-append (λ x. not (p x)) (o .before) (o .it ∷ o .behind), o .passes)
+        (rw (keep-all p (o .before) (o .noneBefore), keep-all p (o .behind) (o .noneBehind)))
 
     pub alone-map : (f : A → A) → ((x : A) → p x ≡ false → f x ≡ x) → map f xs ≡ o .before ++ (f (o .it) ∷ o .behind)
     alone-map f w =
@@ -148,19 +151,22 @@ module _ {A : Type 0} where
 -- change
 module _ {E F : Type 0} (tell tells : E → F) (es : List E) {hs : List F} (r : Reordered (map tell es) hs) where
   -- the new entry is somewhere in the image, the new file at the history's end
-  pub after-create : (e : E) {fs : List E} (x : F) → Reordered fs (e ∷ es) → tells e ≡ x → map tells es ≡ map tell es → Reordered (map tells fs) (hs ++ (x ∷ []))
+  pub after-create : (e : E) {fs : List E} (x : F) → Reordered fs (e ∷ es) → tells e ≡ x → map tells es ≡ map tell es
+      → Reordered (map tells fs) (hs ++ (x ∷ []))
   after-create e x p n o =
       let q : Reordered (map tells (e ∷ es)) (x ∷ hs) = rw (n, o) (next x r) in
       then (reordered-map tells p) (then q (rw append-nil at (back (middle x hs []))))
 
-  pub after-delete : (p : E → Bool) (q : F → Bool) → ((e : E) → q (tell e) ≡ p e) → map tells (keep p es) ≡ map tell (keep p es) → Reordered (map tells (keep p es)) (keep q hs)
+  pub after-delete : (p : E → Bool) (q : F → Bool) → ((e : E) → q (tell e) ≡ p e) → map tells (keep p es) ≡ map tell (keep p es)
+      → Reordered (map tells (keep p es)) (keep q hs)
   after-delete p q w o = rw (o, ← keep-map tell p q w es) (reordered-keep q r)
 
   pub after-change : (f : E → E) (g : F → F) → map tells (map f es) ≡ map g (map tell es) → Reordered (map tells (map f es)) (map g hs)
   after-change f g o = rw o (reordered-map g r)
 
 -- the first that passes a test is the same, where no two can pass it
-pub first-same : {A : Type 0} (same : A → A → Bool) → ((x y : A) → same x y ≡ same y x) → (p : A → Bool) → ((x y : A) → p x ≡ true → p y ≡ true → same x y ≡ true)
+pub first-same : {A : Type 0} (same : A → A → Bool) → ((x y : A) → same x y ≡ same y x)
+    → (p : A → Bool) → ((x y : A) → p x ≡ true → p y ≡ true → same x y ≡ true)
     → (d : A) {xs ys : List A} → Reordered xs ys → distinct same xs ≡ true → first p d xs ≡ first p d ys
 unfolding first distinct any
 first-same same c p w d none h = refl
@@ -176,7 +182,8 @@ first-same same c p w d (swap x y xs) h = go (p x) (p y) refl refl
     go false false e f = refl
 first-same same c p w d (then r s) h = first-same same c p w d r h ∙ first-same same c p w d s (sym (reordered-distinct same c r) ∙ h)
 
-pub first-map : {A B : Type 0} (f : A → B) (p : A → Bool) (q : B → Bool) → ((x : A) → q (f x) ≡ p x) → (d : A) (xs : List A) → f (first p d xs) ≡ first q (f d) (map f xs)
+pub first-map : {A B : Type 0} (f : A → B) (p : A → Bool) (q : B → Bool) → ((x : A) → q (f x) ≡ p x) → (d : A) (xs : List A)
+    → f (first p d xs) ≡ first q (f d) (map f xs)
 unfolding first
 first-map f p q w d [] = refl
 first-map {A} {B} f p q w d (x ∷ xs) = rw (w x, ← first-map f p q w d xs) (go (p x) (first p d xs))
@@ -201,3 +208,87 @@ first-at same r d (x ∷ xs) zero l h = rw (r x)
 first-at same r d (x ∷ xs) (suc i) l h =
     let s = and-true (not (any (same x) xs)) (distinct same xs) h in
     rw (any-at (same x) d xs (not-true _ (s .0)) i (omega arith)) (first-at same r d xs i (omega arith) (s .1))
+
+module _ {X : Type 0} (p : X → Bool) (d : X) where
+  -- where one passes, it is the one at its place
+  pub first-found : (xs : List X) → any p xs ≡ true → (placeOf p xs < length xs) × (getD xs (placeOf p xs) d ≡ first p d xs)
+  unfolding any first placeOf
+  first-found [] h = absurd (let z : _≡_ {A = ℕ} 0 1 = cc in omega arith)
+  first-found (x ∷ xs) h = go (p x) h (first-found xs)
+    where
+      go : (b : Bool) → (b || any p xs) ≡ true → (any p xs ≡ true → (placeOf p xs < length xs) × (getD xs (placeOf p xs) d ≡ first p d xs))
+          → (cond b 0 (suc (placeOf p xs)) < suc (length xs)) × (getD (x ∷ xs) (cond b 0 (suc (placeOf p xs))) d ≡ cond b x (first p d xs))
+      go true e ih = (omega arith, refl)
+      go false e ih = let r = ih e in (omega (arith, r .0), r .1)
+
+  pub first-none : (xs : List X) → any p xs ≡ false → first p d xs ≡ d
+  unfolding any first
+  first-none [] h = refl
+  first-none (x ∷ xs) h = let s = or-false (p x) (any p xs) h in rw (s .0) (first-none xs (s .1))
+
+-- the first that passes, where a map changes those that pass into others that pass
+module _ {A : Type 0} (p : A → Bool) (f : A → A) (w : (x : A) → p (f x) ≡ p x) where
+  pub passes-still : (x : A) → p (cond (p x) (f x) x) ≡ p x
+  passes-still x = go (p x) refl
+    where
+      go : (b : Bool) → p x ≡ b → p (cond b (f x) x) ≡ p x
+      go true e = w x
+      go false e = refl
+
+  pub first-changed : (d : A) (xs : List A) → any p xs ≡ true → first p d (map (λ x. cond (p x) (f x) x) xs) ≡ f (first p d xs)
+  unfolding any first
+  first-changed d [] h = absurd (let z : _≡_ {A = ℕ} 0 1 = cc in omega arith)
+  first-changed d (x ∷ xs) h = rw (passes-still x) (go (p x) h (first-changed d xs))
+    where
+      go : (b : Bool) → (b || any p xs) ≡ true
+          → (any p xs ≡ true → first p d (map (λ x. cond (p x) (f x) x) xs) ≡ f (first p d xs))
+          → cond b (cond b (f x) x) (first p d (map (λ x. cond (p x) (f x) x) xs)) ≡ f (cond b x (first p d xs))
+      go true h ih = refl
+      go false h ih = ih h
+
+-- ---- an element that stays
+
+-- an element that a list has at some place is in the list in another order, in its map where the map leaves it, among those kept
+-- where it is kept, and in a longer list
+module _ {A : Type 0} (d x : A) where
+  abbrev pub In : List A → Type 0
+  In xs = (i : ℕ) × (i < length xs) × (getD xs i d ≡ x)
+
+  later : (y : A) (xs : List A) → In xs → In (y ∷ xs)
+  later y xs h = (suc (h .0), omega (arith, h .1), h .2)
+
+  pub in-reordered : {xs ys : List A} → Reordered xs ys → In xs → In ys
+  in-reordered r h = go r (h .0) (h .1) (h .2)
+    where
+      go : {xs ys : List A} → Reordered xs ys → (i : ℕ) → i < length xs → getD xs i d ≡ x → In ys
+      go none i l e = (i, l, e)
+      go (next y r) zero l e = (0, omega arith, e)
+      go (next y {xs} {ys} r) (suc i) l e = later y ys (go r i (omega arith) e)
+      go (swap y z xs) zero l e = (1, omega arith, e)
+      go (swap y z xs) (suc zero) l e = (0, omega arith, e)
+      go (swap y z xs) (suc (suc i)) l e = (suc (suc i), l, e)
+      go (then r s) i l e = let k = go r i l e in go s (k .0) (k .1) (k .2)
+
+  pub in-map : (f : A → A) → f x ≡ x → (xs : List A) → In xs → In (map f xs)
+  in-map f w xs h = go xs (h .0) (h .1) (h .2)
+    where
+      go : (xs : List A) (i : ℕ) → i < length xs → getD xs i d ≡ x → In (map f xs)
+      go [] i l e = absurd (omega arith)
+      go (y ∷ xs) zero l e = (0, omega arith, ap f e ∙ w)
+      go (y ∷ xs) (suc i) l e = later (f y) (map f xs) (go xs i (omega arith) e)
+
+  pub in-keep : (p : A → Bool) → p x ≡ true → (xs : List A) → In xs → In (keep p xs)
+  unfolding keep
+  in-keep p w xs h = go xs (h .0) (h .1) (h .2)
+    where
+      kept : (y : A) (xs : List A) (b : Bool) → In (keep p xs) → In (cond b (y ∷ keep p xs) (keep p xs))
+      kept y xs true h = later y (keep p xs) h
+      kept y xs false h = h
+
+      go : (xs : List A) (i : ℕ) → i < length xs → getD xs i d ≡ x → In (keep p xs)
+      go [] i l e = absurd (omega arith)
+      go (y ∷ xs) zero l e = rw (ap p e ∙ w) (0, omega arith, e)
+      go (y ∷ xs) (suc i) l e = kept y xs (p y) (go xs i (omega arith) e)
+
+  pub in-append : (xs ys : List A) → In xs → In (xs ++ ys)
+  in-append xs ys h = (h .0, omega (arith, h .1, length-append xs ys), List·getD-append xs ys d (h .0) (h .1) ∙ h .2)

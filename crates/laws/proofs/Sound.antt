@@ -1,6 +1,6 @@
 -- The map as lists of blocks: what checks 8 and 9 say of an entry function, and one law by which every change keeps it.
 use mathlib.Core.Path.{_≡_, _∙_}
-use mathlib.Core.List.{List, [], _∷_, _++_}
+use mathlib.Core.List.{List, [], _∷_, _++_, map}
 use Prim.Native.Nat.{ℕ, _+_, _≤_}
 use native.Mathlib.Omega.{arith}
 use native.Mathlib.Decide.{ℕ-discrete}
@@ -45,6 +45,15 @@ pub each-right : {A : Type 0} (P : A → Type 0) (l m : List A) → Each P (l ++
 unfolding Each
 each-right P [] m h = h
 each-right P (x ∷ xs) m h = each-right P xs m (h .1)
+
+-- two functions that give the same list agree on each element
+pub each-same : {A B : Type 0} (f g : A → B) (xs : List A) → map f xs ≡ map g xs → Each (λ x. f x ≡ g x) xs
+unfolding Each
+each-same f g [] h = tt
+each-same f g (x ∷ xs) h =
+    let p : f x ≡ g x = cc in
+    let q : map f xs ≡ map g xs = cc in
+    (p, each-same f g xs q)
 
 -- an entry of a linked block is 1 or a block
 behind-good : (e : ℕ → ℕ) (n : ℕ) (bs : List ℕ) → Linked e n bs → (1 ≤ behind bs) × (behind bs ≤ n + 1)

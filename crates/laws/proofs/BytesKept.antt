@@ -12,27 +12,31 @@ use Rattle.model.specs.Lists.{any, keep, placeOf, flat, firstOr0, times}
 use Rattle.model.specs.Bytes.{u16, u32, zeros, part, Bytes}
 use Rattle.model.specs.Facts.{factsOf, factsIn, dirStart, dirLength, N, A, S, nextNumber, freeCount}
 use Rattle.model.specs.Map.{mapEntry, freeBlocks, putChain, putFree}
-use Rattle.model.specs.Directory.{entrySize, endsAt, nextPlace, readAt, entries, readEnd, cutBlocks, directoryBlocks, listing, directory, forkPlace, forkOf, forksIn, blockCount, forkBlocks, named}
+use Rattle.model.specs.Directory.{entrySize, endsAt, nextPlace, readAt, entries, readEnd, cutBlocks, directoryBlocks, listing, directory}
+use Rattle.model.specs.Directory.{forkPlace, forkOf, forksIn, blockCount, forkBlocks, named}
 use Rattle.model.specs.Check.{SoundFork, Accepted}
-use Rattle.model.specs.Calls.{fewest, grown, needed, entryNamed, hasRoom, putContent, filled, newEntry, placed, removedIn, removed, onNamed, rewrittenIn, rewritten, withFork}
-use Rattle.model.specs.Calls.{withDirectory, withFiles, withNext, withFree, created, written, shortened, deleted, change, Fits}
+use Rattle.model.specs.Calls.{fewest, grown, needed, entryNamed, hasRoom, putContent, filled, newEntry, placed, removedIn, removed}
+use Rattle.model.specs.Calls.{onNamed, rewrittenIn, rewritten, withFork, withDirectory, withFiles, withNext, withFree}
+use Rattle.model.specs.Calls.{created, written, shortened, deleted, change, Fits}
 use Rattle.model.specs.Calls.Call.{create, write, cut, delete}
 use Rattle.model.specs.declared.VolumeFacts.{VolumeFacts}
 use Rattle.model.specs.declared.Fork.{Fork}
 use Rattle.model.specs.declared.Fork.the-variants.{Data, Resource}
 use Rattle.model.proofs.Times.{times-append}
 use Rattle.model.proofs.Check.{fork-good, fork-block}
 use Rattle.laws.proofs.Sound.{Each, each-append}
 use Rattle.laws.proofs.Chains.{length-forkBlocks, good}
 use Rattle.laws.proofs.Free.{times-take, free-in}
 use Rattle.laws.proofs.Joins.{InMap, in-map-head}
 use Rattle.laws.proofs.Content.{fewest-holds}
 use Rattle.laws.proofs.MapChecks.{blockCounts, all-blocks}
-use Rattle.laws.proofs.Octets.{Octets, octets, bytes, octets-take, octets-drop, octets-cons, octets-append, octets-zeros, octets-u16, octets-u32, bytes-be32}
+use Rattle.laws.proofs.Octets.{Octets, octets, bytes, octets-take, octets-drop, octets-cons, octets-append, octets-zeros}
+use Rattle.laws.proofs.Octets.{octets-u16, octets-u32, bytes-be32}
 use Rattle.laws.proofs.Octets.{bytes-putChain, bytes-putFree, bytes-putContent, bytes-paste, bytes-sets, octets-sets}
 use Rattle.laws.proofs.Blocks.{cut-count}
-use Rattle.history.proofs.Answers.{MayCreate, MayChange, MayWrite, MayCut, first-found, sound-fork}
-use Rattle.history.proofs.Reading.{map-passes}
+use Rattle.laws.proofs.Reorder.{first-found}
+use Rattle.laws.proofs.Refusals.{MayCreate, MayChange, MayWrite, MayCut}
+use Rattle.laws.proofs.Acceptance.{sound-fork, map-passes}
 
 -- ---- what holds of each element
 
@@ -100,12 +104,13 @@ unfolding placed Each
 octets-placed e o [] h = tt
 octets-placed e o (b ∷ bs) h = go (hasRoom (length e) b) (octets-placed e o bs (h .1))
   where
-    go : (t : Bool) → AllOctets (placed e bs) → AllOctets (elim t as (λ _. List (List ℕ)) [ true ↦ filled (entries b ++ (e ∷ [])) ∷ bs | false ↦ b ∷ placed e bs ])
+    go : (t : Bool) → AllOctets (placed e bs)
+        → AllOctets (elim t as (λ _. List (List ℕ)) [ true ↦ filled (entries b ++ (e ∷ [])) ∷ bs | false ↦ b ∷ placed e bs ])
     go true r = (octets-filled (entries b ++ (e ∷ [])) (each-append Octets (entries b) (e ∷ []) (octets-entries b (h .0)) (o, tt)), h .1)
     go false r = (h .0, r)
 
-octets-new : (number : ℕ) (name finder : List ℕ) (made changed : ℕ) → number < 4294967296 → Octets name → Octets finder → made < 4294967296 → changed < 4294967296 → length name < 256
-    → Octets (newEntry number name finder made changed)
+octets-new : (number : ℕ) (name finder : List ℕ) (made changed : ℕ) → number < 4294967296 → Octets name → Octets finder → made < 4294967296
+    → changed < 4294967296 → length name < 256 → Octets (newEntry number name finder made changed)
 unfolding newEntry
 octets-new number name finder made changed n o f m c l =
     let pad = (51 + length name) % 2 in
@@ -124,7 +129,8 @@ octets-removed name bs h = each-map Octets Octets (removedIn name) (λ b o. go b
     go b o false = o
 
 -- write and cut
-octets-rewritten : (name : List ℕ) (g : List ℕ → List ℕ) → ((e : List ℕ) → Octets e → Octets (g e)) → (bs : List (List ℕ)) → AllOctets bs → AllOctets (rewritten name g bs)
+octets-rewritten : (name : List ℕ) (g : List ℕ → List ℕ) → ((e : List ℕ) → Octets e → Octets (g e)) → (bs : List (List ℕ)) → AllOctets bs
+    → AllOctets (rewritten name g bs)
 unfolding rewritten rewrittenIn onNamed
 octets-rewritten name g w bs h = each-map Octets Octets (rewrittenIn name g) block bs h
   where
@@ -139,8 +145,8 @@ octets-rewritten name g w bs h = each-map Octets Octets (rewrittenIn name g) blo
         (each-map Octets Octets (onNamed name g) (λ e q. one e q (named name e)) (entries b) (octets-entries b o)))
         (octets-drop (readEnd b) b o)
 
-octets-fork : (fork : Fork) (a logical : ℕ) (bs : List ℕ) (changed : ℕ) → firstOr0 bs < 65536 → logical < 4294967296 → length bs * a < 4294967296 → changed < 4294967296
-    → (e : List ℕ) → Octets e → Octets (withFork fork a logical bs changed e)
+octets-fork : (fork : Fork) (a logical : ℕ) (bs : List ℕ) (changed : ℕ) → firstOr0 bs < 65536 → logical < 4294967296
+    → length bs * a < 4294967296 → changed < 4294967296 → (e : List ℕ) → Octets e → Octets (withFork fork a logical bs changed e)
 unfolding withFork
 octets-fork fork a logical bs changed s l p c e o =
     let fields = octets-append (u16 (firstOr0 bs)) _ (octets-u16 (firstOr0 bs) s)
@@ -241,14 +247,16 @@ module _ (image : List ℕ) (acc : Accepted image) where
     unfolding entryNamed
     named-sound fork =
         let r = first-found (named name) [] (directory image) found in
-        subst (λ (e : List ℕ). SoundFork (mapEntry image) (N f) (A f) (forkOf fork e)) (r .1) (sound-fork image acc (placeOf (named name) (directory image)) (r .0) fork)
+        subst (λ (e : List ℕ). SoundFork (mapEntry image) (N f) (A f) (forkOf fork e)) (r .1)
+        (sound-fork image acc (placeOf (named name) (directory image)) (r .0) fork)
 
     -- its blocks and the free ones are no more than N
     pub named-counts : freeCount f + (length (blocks Data) + length (blocks Resource)) ≤ N f
     unfolding entryNamed
     named-counts =
         let r = first-found (named name) [] (directory image) found in
-        let c = subst (λ (e : List ℕ). blockCount (A f) (forkOf Data e) + blockCount (A f) (forkOf Resource e) ≤ blockCounts (A f) (forksIn (directory image))) (r .1)
+        let all = blockCounts (A f) (forksIn (directory image)) in
+        let c = subst (λ (e : List ℕ). blockCount (A f) (forkOf Data e) + blockCount (A f) (forkOf Resource e) ≤ all) (r .1)
         (entry-counts (A f) (directory image) (placeOf (named name) (directory image)) (r .0)) in
         omega (
           arith,
@@ -277,7 +285,8 @@ created-bytes image acc h name finder made changed fits may =
     let f = factsOf image in
     let n = next-fits image h in
     let e = newEntry (nextNumber f) name finder made changed in
-    let o = octets-new (nextNumber f) name finder made changed n (octets name (fits .0)) (octets finder (fits .1)) (fits .3) (fits .4) (omega (arith, may .title .short)) in
+    let o = octets-new (nextNumber f) name finder made changed n (octets name (fits .0)) (octets finder (fits .1)) (fits .3) (fits .4)
+    (omega (arith, may .title .short)) in
     let bs = placed e (directoryBlocks f image) in
     let q = may .number in
     files-kept (f .files + 1) (withNext (nextNumber f + 1) (withDirectory f image bs)) (omega (arith, files-few image acc))
@@ -285,9 +294,11 @@ created-bytes image acc h name finder made changed fits may =
     (directory-kept f image bs h (octets-placed e o (directoryBlocks f image) (octets-directory f image (octets image h)))))
 
 -- write and cut: the image base with the fields of the fork that has the blocks bs and logical bytes now
-rewritten-kept : (image : List ℕ) → Accepted image → Bytes image → (name : List ℕ) (fork : Fork) (logical : ℕ) (bs : List ℕ) (changed free : ℕ) (base : List ℕ) → Bytes base
+rewritten-kept : (image : List ℕ) → Accepted image → Bytes image → (name : List ℕ) (fork : Fork) (logical : ℕ) (bs : List ℕ)
+    (changed free : ℕ) (base : List ℕ) → Bytes base
     → InMap (N (factsOf image)) bs → length bs ≤ N (factsOf image) → logical < 4294967296 → changed < 4294967296 → free ≤ N (factsOf image)
-    → Bytes (withFree free (withDirectory (factsOf image) base (rewritten name (withFork fork (A (factsOf image)) logical bs changed) (directoryBlocks (factsOf image) image))))
+    → let f = factsOf image in
+    Bytes (withFree free (withDirectory f base (rewritten name (withFork fork (A f) logical bs changed) (directoryBlocks f image))))
 rewritten-kept image acc h name fork logical bs changed free base b w k l c r =
     let f = factsOf image in
     let g = withFork fork (A f) logical bs changed in
@@ -335,7 +346,8 @@ shortened-bytes image acc h name fork n changed fits may =
     (omega (arith, may .within, named-holds image acc name found fork, size-fits image acc (length old) (omega arith)))
     (fits .2) (rw length-drop (omega arith))
 
-pub deleted-bytes : (image : List ℕ) → Accepted image → Bytes image → (name : List ℕ) → Fits (delete name) → MayChange image name → Bytes (change (delete name) image)
+pub deleted-bytes : (image : List ℕ) → Accepted image → Bytes image → (name : List ℕ) → Fits (delete name) → MayChange image name
+    → Bytes (change (delete name) image)
 unfolding change deleted
 deleted-bytes image acc h name fits may =
     let f = factsOf image in
@@ -347,4 +359,5 @@ deleted-bytes image acc h name fits may =
     free-kept (freeCount f + length freed) (withFiles (f .files - 1) (withDirectory f (putFree image freed) bs))
     (omega (arith, length-append content resource, named-counts image acc name (may .exists), acc .facts .most))
     (files-kept (f .files - 1) (withDirectory f (putFree image freed) bs) (omega (arith, files-few image acc))
-    (directory-kept f (putFree image freed) bs (bytes-putFree image freed h) (octets-removed name (directoryBlocks f image) (octets-directory f image (octets image h)))))
+    (directory-kept f (putFree image freed) bs (bytes-putFree image freed h)
+    (octets-removed name (directoryBlocks f image) (octets-directory f image (octets image h)))))

@@ -1,0 +1,165 @@
+-- What a refusal and a success of a call mean: the image that each leaves, the number on an accepted image, and what the tests of a
+-- changing call that is not refused have shown.
+use Prim.Native.Nat.{ℕ, zero, suc, _+_, _≤_}
+use mathlib.Core.Path.{_≡_, refl, sym}
+use mathlib.Core.Bool.{Bool, true, false, not}
+use mathlib.Core.List.{List}
+use native.Mathlib.Omega.{arith}
+use lib.ListN.{length}
+use lib.Dec.{eqb, ltb}
+use borrow.Author.Tests.{not-false, eqb-false, eq-eqb, ne-eqb, ltb-false}
+use Rattle.model.specs.Lists.{any}
+use Rattle.model.specs.Bytes.{byte, firstOf}
+use Rattle.model.specs.Facts.{factsOf, A, nextNumber, freeCount, isLocked}
+use Rattle.model.specs.Directory.{padded, directoryBlocks, directory, forkOf, flagsLock, blockCount, named}
+use Rattle.model.specs.Check.{orElse, verdict, Accepted}
+use Rattle.model.specs.Calls.{Call, nameOf, forkGiven, grown, needed, badName, refuses, entryNamed, hasRoom, knownIn, refusal, change, after}
+use Rattle.model.specs.Calls.Call.{create, write, cut, delete}
+use Rattle.model.specs.declared.Fork.{Fork}
+use Rattle.model.proofs.Lists.{or-false}
+use Rattle.model.proofs.Check.{else-zero, verdict-accepted, accepted-verdict}
+use Rattle.laws.proofs.Calls.{by-own}
+
+-- ---- the image that a call leaves
+
+pub refused : (call : Call) (image : List ℕ) → (refusal call image ≡ 0 → ⊥) → after call image ≡ image
+unfolding after
+refused call image z = rw (ne-eqb (refusal call image) 0 z)
+
+pub done : (call : Call) (image : List ℕ) → refusal call image ≡ 0 → after call image ≡ change call image
+unfolding after
+done call image z = rw (eq-eqb (refusal call image) 0 z)
+
+-- ---- numbers
+
+-- on an accepted image the number is the call's own
+pub own-is : (image : List ℕ) → Accepted image → (call : Call) → refusal call image ≡ refuses call (knownIn image (nameOf call) (forkGiven call))
+own-is image acc call =
+    sym (by-own call image (refuses call (knownIn image (nameOf call) (forkGiven call))) (accepted-verdict image acc) refl)
+
+-- no other number is 17
+pub no-check : _≡_ {A = ℕ} 0 17 → ⊥
+no-check e = omega arith
+
+pub other : (t : Bool) (k : ℕ) → eqb k 17 ≡ false → {r : ℕ} → (r ≡ 17 → ⊥) → orElse t k r ≡ 17 → ⊥
+other true k n h e = eqb-false k 17 n e
+other false k n h e = h e
+
+-- a test before 17 that did not fire, and 17 itself
+pub past : (t : Bool) (k r : ℕ) → eqb k 17 ≡ false → orElse t k r ≡ 17 → (t ≡ false) × (r ≡ 17)
+past true k r n e = absurd (eqb-false k 17 n e)
+past false k r n e = (refl, e)
+
+pub fires : (t : Bool) → orElse t 17 0 ≡ 17 → t ≡ true
+fires true e = refl
+fires false e = absurd (omega arith)
+
+-- ---- what a call that is not refused has shown
+
+-- a name of 1 to 255 bytes
+pub record GoodName (name : List ℕ) : Type 0 where
+  pub some : 1 ≤ length name
+  pub short : length name ≤ 255
+
+pub good-name : (name : List ℕ) → badName name ≡ false → GoodName name
+unfolding badName
+good-name name h =
+    let s = or-false (eqb (length name) 0) (ltb 255 (length name)) h in
+    let z = eqb-false (length name) 0 (s .0) in
+    record { some = omega arith; short = ltb-false 255 (length name) (s .1) }
+
+-- create
+pub record MayCreate (image name : List ℕ) : Type 0 where
+  pub unlocked : isLocked (factsOf image) ≡ false
+  pub title : GoodName name
+  pub fresh : any (named name) (directory image) ≡ false
+  pub number : nextNumber (factsOf image) ≡ 4294967295 → ⊥
+  pub room : any (hasRoom (padded (51 + length name))) (directoryBlocks (factsOf image) image) ≡ true
+
+-- write, cut and delete: the file is there, and neither it nor the volume is locked
+pub record MayChange (image name : List ℕ) : Type 0 where
+  pub unlocked : isLocked (factsOf image) ≡ false
+  pub title : GoodName name
+  pub exists : any (named name) (directory image) ≡ true
+  pub fileUnlocked : flagsLock (byte (entryNamed name image) 0) ≡ false
+
+pub record MayWrite (image name : List ℕ) (fork : Fork) (offset count : ℕ) : Type 0 where
+  pub file : MayChange image name
+  pub within : offset ≤ forkOf fork (entryNamed name image) .logical
+  pub room :
+      needed (A (factsOf image)) (grown (forkOf fork (entryNamed name image) .logical) offset count)
+      (blockCount (A (factsOf image)) (forkOf fork (entryNamed name image)))
+      ≤ freeCount (factsOf image)
+
+pub record MayCut (image name : List ℕ) (fork : Fork) (size : ℕ) : Type 0 where
+  pub file : MayChange image name
+  pub within : size ≤ forkOf fork (entryNamed name image) .logical
+
+-- the first number is 0 where the answer is
+first-zero : (m n : ℕ) → firstOf m n ≡ 0 → (m ≡ 0) × (n ≡ 0)
+unfolding firstOf
+first-zero zero n h = (refl, h)
+first-zero (suc m) n h = absurd (omega arith)
+
+module _ (image : List ℕ) where
+  -- a call that is not refused was made on an accepted image
+  pub done-accepted : (call : Call) → refusal call image ≡ 0 → Accepted image
+  unfolding refusal
+  done-accepted call z = verdict-accepted image (first-zero (verdict image) _ z .0)
+
+  own-zero : (call : Call) → refusal call image ≡ 0 → refuses call (knownIn image (nameOf call) (forkGiven call)) ≡ 0
+  unfolding refusal
+  own-zero call z = first-zero (verdict image) _ z .1
+
+  pub may-create : (name finder : List ℕ) (created changed : ℕ) → refusal (create name finder created changed) image ≡ 0 → MayCreate image name
+  unfolding refuses knownIn nameOf forkGiven
+  may-create name finder created changed z =
+      let f = factsOf image in
+      let p₁ = else-zero (isLocked f) 10 _ (own-zero (create name finder created changed) z) in
+      let p₂ = else-zero (badName name) 11 _ (p₁ .1) in
+      let p₃ = else-zero (any (named name) (directory image)) 13 _ (p₂ .1) in
+      let p₄ = else-zero (eqb (nextNumber f) 4294967295) 18 _ (p₃ .1) in
+      let p₅ = else-zero (not (any (hasRoom (padded (51 + length name))) (directoryBlocks f image))) 17 0 (p₄ .1) in
+      record {
+        unlocked = p₁ .0;
+        title = good-name name (p₂ .0);
+        fresh = p₃ .0;
+        number = eqb-false (nextNumber f) 4294967295 (p₄ .0);
+        room = not-false _ (p₅ .0);
+      }
+
+  -- the tests that write, cut and delete share, and what stands behind them
+  may-change : (name : List ℕ) (r : ℕ)
+      → orElse (isLocked (factsOf image)) 11 (orElse (badName name) 12 (orElse (not (any (named name) (directory image))) 13
+      (orElse (flagsLock (byte (entryNamed name image) 0)) 15 r))) ≡ 0
+      → MayChange image name × (r ≡ 0)
+  may-change name r z =
+      let p₁ = else-zero (isLocked (factsOf image)) 10 _ z in
+      let p₂ = else-zero (badName name) 11 _ (p₁ .1) in
+      let p₃ = else-zero (not (any (named name) (directory image))) 12 _ (p₂ .1) in
+      let p₄ = else-zero (flagsLock (byte (entryNamed name image) 0)) 14 r (p₃ .1) in
+      (record { unlocked = p₁ .0; title = good-name name (p₂ .0); exists = not-false _ (p₃ .0); fileUnlocked = p₄ .0 }, p₄ .1)
+
+  pub may-write : (name : List ℕ) (fork : Fork) (offset : ℕ) (bytes : List ℕ) (changed : ℕ)
+      → refusal (write name fork offset bytes changed) image ≡ 0 → MayWrite image name fork offset (length bytes)
+  unfolding refuses knownIn nameOf forkGiven
+  may-write name fork offset bytes changed z =
+      let f = factsOf image in
+      let g = forkOf fork (entryNamed name image) in
+      let need = needed (A f) (grown (g .logical) offset (length bytes)) (blockCount (A f) g) in
+      let s = may-change name _ (own-zero (write name fork offset bytes changed) z) in
+      let p₅ = else-zero (ltb (g .logical) offset) 15 _ (s .1) in
+      let p₆ = else-zero (ltb (freeCount f) need) 16 0 (p₅ .1) in
+      record { file = s .0; within = ltb-false (g .logical) offset (p₅ .0); room = ltb-false (freeCount f) need (p₆ .0) }
+
+  pub may-cut : (name : List ℕ) (fork : Fork) (size changed : ℕ) → refusal (cut name fork size changed) image ≡ 0 → MayCut image name fork size
+  unfolding refuses knownIn nameOf forkGiven
+  may-cut name fork size changed z =
+      let g = forkOf fork (entryNamed name image) in
+      let s = may-change name _ (own-zero (cut name fork size changed) z) in
+      let p₅ = else-zero (ltb (g .logical) size) 15 0 (s .1) in
+      record { file = s .0; within = ltb-false (g .logical) size (p₅ .0) }
+
+  pub may-delete : (name : List ℕ) → refusal (delete name) image ≡ 0 → MayChange image name
+  unfolding refuses knownIn nameOf forkGiven
+  may-delete name z = may-change name 0 (own-zero (delete name) z) .0
