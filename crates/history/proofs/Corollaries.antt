@@ -20,8 +20,8 @@ use Rattle.model.specs.Calls.Call.{check, entry, find, block, read, create, wri
 use Rattle.history.specs.History.{File, History, blocksOf, noFile, heldOf, called, fileCalled, knownTo, declines, writes}
 use Rattle.model.specs.Bytes.{overwritten}
 use Rattle.history.specs.History.{changedFork, onCalled, moves, step, Told, toldBy, toldOnly, says, tells, filesIn, reading, Agrees, Event, Run}
-use Rattle.history.specs.History.{isFull, asked, changes, RoomRule, Step, Holds, EveryRun}
-use Rattle.history.specs.Among.{Has, lastImage}
+use Rattle.history.specs.History.{isFull, asked, changes, RoomRule, InStep, Holds, EveryRun}
+use Rattle.history.specs.Among.{HasFile, lastImage}
 use Rattle.history.specs.Untouched.{NoneNames, Untouched}
 use Rattle.history.specs.Deleting.{Deleting}
 use Rattle.history.specs.Room.{newBlocks, Room}
@@ -41,7 +41,7 @@ use Rattle.history.proofs.Reading.{blocks-of}
 use Rattle.history.proofs.Run.{every-run}
 
 -- the claim on a list of one event
-one-step : (e : Event) (image : List ℕ) → Accepted image → Does (e .call) image (e .given) (e .left) → Step e image (reading image)
+one-step : (e : Event) (image : List ℕ) → Accepted image → Does (e .call) image (e .given) (e .left) → InStep e image (reading image)
 unfolding EveryRun Run Holds
 one-step e image acc m = let h : Holds image (reading image) (e ∷ []) = every-run image (e ∷ []) acc (m, tt) .1 in h .0
 
@@ -74,7 +74,7 @@ step-keeps h full call x n i = go (eqb (declines h full call) 0)
     go false = i
 
 stays : (events : List Event) (image : List ℕ) (h : History) (x : File) → Agrees image h → Holds image h events → NoneNames (x .name) events
-    → In noFile x (h .files) → Has (lastImage image events) x
+    → In noFile x (h .files) → HasFile (lastImage image events) x
 unfolding Holds NoneNames lastImage called
 stays [] image h x a s n i = in-reordered noFile x (back (a .files)) i
 stays (e ∷ events) image h x a s n i =
@@ -143,7 +143,7 @@ told-number h full n call = go (declines h full call) (eqb (declines h full call
     go r true e = success call ∙ sym (eqb-true r 0 e)
     go r false e = refl
 
-declined : (e : Event) (image : List ℕ) (h : History) → Step e image h → e .given .number ≡ declines h (isFull e) (e .call)
+declined : (e : Event) (image : List ℕ) (h : History) → InStep e image h → e .given .number ≡ declines h (isFull e) (e .call)
 unfolding toldBy
 declined e image h s = ap (λ (t : Told). t .number) (s .told) ∙ told-number h (isFull e) (asked image (e .call)) (e .call)
 
@@ -222,7 +222,7 @@ module _ (name : List ℕ) (fork : Fork) where
   -- the pieces, one after the other; then comes one event more
   pieces-hold : (pieces : List (List ℕ)) (events : List Event) (final : Event) (image : List ℕ) (h : History) (o q : ℕ) (sofar : List ℕ)
       → Holding h o sofar → o + length sofar ≡ q → Writes name fork q pieces events → Holds image h (events ++ (final ∷ []))
-      → (h′ : History) × Holding h′ o (sofar ++ flat pieces) × Step final (lastImage image events) h′
+      → (h′ : History) × Holding h′ o (sofar ++ flat pieces) × InStep final (lastImage image events) h′
   unfolding Writes Holds flat lastImage
   pieces-hold [] [] final image h o q sofar s p w c = (h, subst (Holding h o) (sym (append-nil sofar)) s, c .0)
   pieces-hold [] (e ∷ events) final image h o q sofar s p w c = absurd w
@@ -248,7 +248,7 @@ module _ (name : List ℕ) (fork : Fork) where
       write-allowed h (isFull e) o xs (w .0 .0) (subst (λ (k : Call). declines h (isFull e) k ≡ 0) (w .0 .1) z)
 
   -- a read of bytes that are there
-  read-holds : (h : History) (o : ℕ) (all : List ℕ) (e : Event) (image buffer : List ℕ) → Holding h o all → e .call ≡ read name fork o buffer → Step e image h
+  read-holds : (h : History) (o : ℕ) (all : List ℕ) (e : Event) (image buffer : List ℕ) → Holding h o all → e .call ≡ read name fork o buffer → InStep e image h
       → length buffer ≡ length all → (e .given .number ≡ 0) × (e .given .count ≡ length buffer) × (e .given .buffer ≡ all)
   unfolding toldBy tells says declines refuses knownTo nameOf forkGiven bytesIn readCount copied
   read-holds h o all e image buffer s call c l =

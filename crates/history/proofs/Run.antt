@@ -8,7 +8,7 @@ use lib.Dec.{eqb}
 use Rattle.model.specs.Bytes.{Bytes}
 use Rattle.model.specs.Check.{Accepted}
 use Rattle.model.specs.Calls.{Call, refusal, change, Fits, Does}
-use Rattle.history.specs.History.{History, moves, step, tells, toldBy, asked, Agrees, reading, Event, Run, isFull, OnlyNamed, RoomRule, Step, Holds, EveryRun}
+use Rattle.history.specs.History.{History, moves, step, tells, toldBy, asked, Agrees, reading, Event, Run, isFull, OnlyNamed, RoomRule, InStep, Holds, EveryRun}
 use Rattle.model.specs.Calls.Call.{check, entry, find, block, read, create, write, cut, delete}
 use Rattle.model.specs.declared.Fork.{Fork}
 use Rattle.laws.proofs.Refusals.{refused, done, may-create, may-write, may-cut, may-delete}
@@ -104,7 +104,7 @@ done-call (cut name fork size changed) image h acc a b w z = cut-done name fork 
 done-call (delete name) image h acc a b w z = delete-done name image h acc a b w z
 
 -- one event
-pub event : (e : Event) (image : List ℕ) (h : History) → Accepted image → Agrees image h → Does (e .call) image (e .given) (e .left) → Step e image h
+pub event : (e : Event) (image : List ℕ) (h : History) → Accepted image → Agrees image h → Does (e .call) image (e .given) (e .left) → InStep e image h
 unfolding isFull
 event e image h acc a m =
     let call = e .call in

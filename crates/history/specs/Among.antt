@@ -6,8 +6,8 @@ use lib.ListN.{length, getD}
 use Rattle.history.specs.History.{File, noFile, filesIn, Event}
 
 -- The image has this file at some place: number, name, flags, Finder bytes, dates, and each fork's bytes and count of blocks.
-abbrev pub Has : List ℕ → File → Type 0
-Has image x = (i : ℕ) × (i < length (filesIn image)) × (getD (filesIn image) i noFile ≡ x)
+abbrev pub HasFile : List ℕ → File → Type 0
+HasFile image x = (i : ℕ) × (i < length (filesIn image)) × (getD (filesIn image) i noFile ≡ x)
 
 -- the image that the last event of a list left
 unfoldable pub lastImage : List ℕ → List Event → List ℕ

@@ -8,9 +8,9 @@ use Rattle.model.specs.Check.{Accepted}
 use Rattle.model.specs.Calls.{Answer, Does}
 use Rattle.model.specs.Calls.Call.{delete}
 use Rattle.history.specs.History.{File}
-use Rattle.history.specs.Among.{Has}
+use Rattle.history.specs.Among.{HasFile}
 
 unfoldable pub Deleting : Type 0
 Deleting =
     (image name left : List ℕ) (given : Answer) (x : File) → Accepted image → Does (delete name) image given left
-    → sameName name (x .name) ≡ false → Has image x → Has left x
+    → sameName name (x .name) ≡ false → HasFile image x → HasFile left x

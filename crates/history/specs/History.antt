@@ -409,13 +409,13 @@ directoryAt ds i = getD ds i (record { 0 = 0 }) .0
 -- The half-bytes that a change may touch, where bs are the blocks that the named fork has before or after and ds are directory
 -- blocks: the blocks bs and their map entries (each three half-bytes), the directory blocks, the number of files, the next file
 -- number, the free count. A neighbour's half-byte and dead space are not among them.
-pub data Named (f : VolumeFacts) (bs : List ℕ) (ds : List LogicalBlock) : ℕ → Type 0 where
-  inBlock : (b h : ℕ) → 1 ≤ times b bs → Within (blockByte (S f) (A f) b) (A f) h → Named f bs ds h
-  inEntry : (b h : ℕ) → 1 ≤ times b bs → 2176 + 3 * (b - 2) ≤ h → h < 2179 + 3 * (b - 2) → Named f bs ds h
-  inDirectory : (i h : ℕ) → i < length ds → Within (512 * directoryAt ds i) 512 h → Named f bs ds h
-  inFiles : (h : ℕ) → Within 1036 2 h → Named f bs ds h
-  inNext : (h : ℕ) → Within 1054 4 h → Named f bs ds h
-  inFree : (h : ℕ) → Within 1058 2 h → Named f bs ds h
+pub data MayDiffer (f : VolumeFacts) (bs : List ℕ) (ds : List LogicalBlock) : ℕ → Type 0 where
+  inBlock : (b h : ℕ) → 1 ≤ times b bs → Within (blockByte (S f) (A f) b) (A f) h → MayDiffer f bs ds h
+  inEntry : (b h : ℕ) → 1 ≤ times b bs → 2176 + 3 * (b - 2) ≤ h → h < 2179 + 3 * (b - 2) → MayDiffer f bs ds h
+  inDirectory : (i h : ℕ) → i < length ds → Within (512 * directoryAt ds i) 512 h → MayDiffer f bs ds h
+  inFiles : (h : ℕ) → Within 1036 2 h → MayDiffer f bs ds h
+  inNext : (h : ℕ) → Within 1054 4 h → MayDiffer f bs ds h
+  inFree : (h : ℕ) → Within 1058 2 h → MayDiffer f bs ds h
 
 pub record OnlyNamed (call : Call) (image left : List ℕ) : Type 0 where
   pub size : length left ≡ length image
@@ -424,7 +424,7 @@ pub record OnlyNamed (call : Call) (image left : List ℕ) : Type 0 where
   pub few : length blocks ≤ following call .directories
   pub first : (i : ℕ) → i < length blocks → dirStart (factsOf image) ≤ directoryAt blocks i
   pub last : (i : ℕ) → i < length blocks → directoryAt blocks i < dirStart (factsOf image) + dirLength (factsOf image)
-  pub kept : (h : ℕ) → (Named (factsOf image) (namedBlocks call image ++ namedBlocks call left) blocks h → ⊥) → half left h ≡ half image h
+  pub kept : (h : ℕ) → (MayDiffer (factsOf image) (namedBlocks call image ++ namedBlocks call left) blocks h → ⊥) → half left h ≡ half image h
 
 -- ---- Refusal 17
 
@@ -435,7 +435,7 @@ RoomRule h call number = following call .room h number
 -- ---- The claim
 
 -- what must hold after an event on an image that reads as the history h
-pub record Step (e : Event) (image : List ℕ) (h : History) : Type 0 where
+pub record InStep (e : Event) (image : List ℕ) (h : History) : Type 0 where
   -- the image is bytes, and accepted
   pub bytes : Bytes (e .left)
   pub accepted : Accepted (e .left)
@@ -453,7 +453,7 @@ pub record Step (e : Event) (image : List ℕ) (h : History) : Type 0 where
 -- every event of the list keeps step with the history
 unfoldable pub Holds : List ℕ → History → List Event → Type 0
 Holds image h [] = Unit
-Holds image h (e ∷ events) = Step e image h × Holds (e .left) (step h (isFull e) (e .call)) events
+Holds image h (e ∷ events) = InStep e image h × Holds (e .left) (step h (isFull e) (e .call)) events
 
 -- For every list of calls from an accepted image, refused ones included: the history starts from what the image reads as, and
 -- every event keeps step with it.

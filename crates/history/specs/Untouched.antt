@@ -7,7 +7,7 @@ use Rattle.model.specs.Directory.{sameName}
 use Rattle.model.specs.Check.{Accepted}
 use Rattle.model.specs.Calls.{nameOf}
 use Rattle.history.specs.History.{File, Event, Run, changes}
-use Rattle.history.specs.Among.{Has, lastImage}
+use Rattle.history.specs.Among.{HasFile, lastImage}
 
 -- no create, write, cut or delete of the list is given this name
 unfoldable pub NoneNames : List ℕ → List Event → Type 0
@@ -17,4 +17,4 @@ NoneNames name (e ∷ events) = ((changes (e .call) && sameName (nameOf (e .call
 unfoldable pub Untouched : Type 0
 Untouched =
     (image : List ℕ) (events : List Event) (x : File) → Accepted image → Run image events
-    → Has image x → NoneNames (x .name) events → Has (lastImage image events) x
+    → HasFile image x → NoneNames (x .name) events → HasFile (lastImage image events) x

@@ -18,7 +18,7 @@ use Rattle.model.specs.Directory.{entrySize, directory, numberIn, nameIn
 use Rattle.model.specs.Check.{fires1, fires2, fires3, fires4, fires5, goodEntry, fires6, goodNumber, sameNumbers, sameNames, fires7}
 use Rattle.model.specs.Check.{emptyFork, fullFork, goodFork, sharesNone, fires8, fires9, fires10}
 use Rattle.model.specs.Check.{orElse, from9, from8, from7, from6, from5, from4, from3, from2, verdict}
-use Rattle.model.specs.Check.{SoundFacts, SoundEntry, SoundDirectory, SoundFork, forkAt, Has, SoundMap, Accepted, VerdictIsAccepted}
+use Rattle.model.specs.Check.{SoundFacts, SoundEntry, SoundDirectory, SoundFork, forkAt, HasBlock, SoundMap, Accepted, VerdictIsAccepted}
 use Rattle.model.specs.declared.VolumeFacts.{VolumeFacts}
 use Rattle.model.specs.declared.ForkFacts.{ForkFacts}
 use Rattle.model.proofs.Lists.{and-true, or-false, not-so, so-not, every-at, at-every, distinct-at, at-distinct}
@@ -262,7 +262,7 @@ module _ (e : ℕ → ℕ) (n a : ℕ) (g : ForkFacts) where
       ]
 
   -- a sound fork's blocks are 2 to N+1, each once
-  pub fork-block : (b : ℕ) → SoundFork e n a g → Has e a g b → (2 ≤ b) × (b ≤ n + 1)
+  pub fork-block : (b : ℕ) → SoundFork e n a g → HasBlock e a g b → (2 ≤ b) × (b ≤ n + 1)
   unfolding forkBlocks blockCount
   fork-block b s p =
       elim (ℕ-discrete (g .start .0) 0) [
@@ -285,25 +285,25 @@ noFork = record { start = record { 0 = 0 }; logical = 0; physical = 0 }
 
 -- a block is one of all the forks' where it is one of some fork's
 module _ (e : ℕ → ℕ) (a : ℕ) (gs : List ForkFacts) where
-  pub owned-find : (b : ℕ) → 1 ≤ times b (ownedBlocks e a gs) → (i : ℕ) × (i < length gs) × Has e a (forkAt gs i) b
+  pub owned-find : (b : ℕ) → 1 ≤ times b (ownedBlocks e a gs) → (i : ℕ) × (i < length gs) × HasBlock e a (forkAt gs i) b
   unfolding ownedBlocks
   owned-find b h = flat-find (forkBlocks e a) noFork b gs h
 
-  pub find-owned : (b i : ℕ) → i < length gs → Has e a (forkAt gs i) b → 1 ≤ times b (ownedBlocks e a gs)
+  pub find-owned : (b i : ℕ) → i < length gs → HasBlock e a (forkAt gs i) b → 1 ≤ times b (ownedBlocks e a gs)
   unfolding ownedBlocks
   find-owned b i l h = omega (arith, flat-one (forkBlocks e a) noFork b gs i l)
 
 module _ (e : ℕ → ℕ) (n a : ℕ) (gs : List ForkFacts) where
   -- no block is twice among those of forks that are sound and share none
   pub owned-once : ((i : ℕ) → i < length gs → SoundFork e n a (forkAt gs i))
-      → ((i j b : ℕ) → i < j → j < length gs → Has e a (forkAt gs i) b → Has e a (forkAt gs j) b → ⊥)
+      → ((i j b : ℕ) → i < j → j < length gs → HasBlock e a (forkAt gs i) b → HasBlock e a (forkAt gs j) b → ⊥)
       → (b : ℕ) → times b (ownedBlocks e a gs) ≤ 1
   unfolding ownedBlocks
   owned-once s h b = flat-once (forkBlocks e a) noFork b gs (λ i l. fork-once e n a (forkAt gs i) b (s i l)) (λ i j. h i j b)
 
   -- check 8 asks it only of the blocks 2 to N+1: sound forks have no other
   pub shares-apart : ((i : ℕ) → i < length gs → SoundFork e n a (forkAt gs i)) → sharesNone e n a gs ≡ true
-      → (i j b : ℕ) → i < j → j < length gs → Has e a (forkAt gs i) b → Has e a (forkAt gs j) b → ⊥
+      → (i j b : ℕ) → i < j → j < length gs → HasBlock e a (forkAt gs i) b → HasBlock e a (forkAt gs j) b → ⊥
   unfolding sharesNone ownedBlocks
   shares-apart s h i j b k l p q =
       let r = fork-block e n a (forkAt gs i) b (s i (omega arith)) p in

@@ -177,8 +177,8 @@ abbrev pub forkAt : List ForkFacts → ℕ → ForkFacts
 forkAt gs i = getD gs i (record { start = record { 0 = 0 }; logical = 0; physical = 0 })
 
 -- block b is one of the fork's
-abbrev pub Has : (ℕ → ℕ) → ℕ → ForkFacts → ℕ → Type 0
-Has e a g b = 1 ≤ times b (forkBlocks e a g)
+abbrev pub HasBlock : (ℕ → ℕ) → ℕ → ForkFacts → ℕ → Type 0
+HasBlock e a g b = 1 ≤ times b (forkBlocks e a g)
 
 -- what checks 5, 8, 9 and 10 ask of the map and the forks
 pub record SoundMap (e : ℕ → ℕ) (n a free : ℕ) (gs : List ForkFacts) : Type 0 where
@@ -186,9 +186,9 @@ pub record SoundMap (e : ℕ → ℕ) (n a free : ℕ) (gs : List ForkFacts) : T
   pub sorted : (b : ℕ) → 2 ≤ b → b ≤ n + 1 → e b ≤ n + 1
   -- 8
   pub forks : (i : ℕ) → i < length gs → SoundFork e n a (forkAt gs i)
-  pub apart : (i j b : ℕ) → i < j → j < length gs → Has e a (forkAt gs i) b → Has e a (forkAt gs j) b → ⊥
+  pub apart : (i j b : ℕ) → i < j → j < length gs → HasBlock e a (forkAt gs i) b → HasBlock e a (forkAt gs j) b → ⊥
   -- 9
-  pub owned : (b : ℕ) → 2 ≤ b → b ≤ n + 1 → 1 ≤ e b → (i : ℕ) × (i < length gs) × Has e a (forkAt gs i) b
+  pub owned : (b : ℕ) → 2 ≤ b → b ≤ n + 1 → 1 ≤ e b → (i : ℕ) × (i < length gs) × HasBlock e a (forkAt gs i) b
   -- 10
   pub counted : free ≡ length (freeBlocks e n)
 

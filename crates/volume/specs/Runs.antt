@@ -6,7 +6,7 @@ use lib.ListN.{length, drop}
 use Rattle.model.specs.Check.{Accepted}
 use Rattle.model.specs.Calls.{Call, Answer, lent, Does}
 use Rattle.model.specs.Calls.Call.{check, entry, find, block, read, create, write, cut, delete}
-use Rattle.history.specs.History.{History, Agrees, Step}
+use Rattle.history.specs.History.{History, Agrees, InStep}
 use Rattle.model.specs.declared.Fork.{Fork}
 use Rattle.volume.specs.declared.Wanted.{Wanted}
 use Rattle.volume.specs.declared.Wanted.the-variants.{Check, Entry, Find, Block, Read, Create, Write, Cut, Delete}
@@ -32,4 +32,4 @@ pub record Happens (call : Call) (image : List ℕ) (number : ℕ) (buffer after
   -- what was lent of the buffer is the answer's, and the rest is as it came
   pub filled : after ≡ given .buffer ++ drop (length (lent call)) buffer
   -- on an accepted image that reads as a history, it keeps step with that history, as the claim on every run says
-  pub steps : (h : History) → Accepted image → Agrees image h → Step (record { call = call; given = given; left = left }) image h
+  pub steps : (h : History) → Accepted image → Agrees image h → InStep (record { call = call; given = given; left = left }) image h
