@@ -16,7 +16,7 @@ use Rattle.model.specs.Map.{mapEntry}
 use Rattle.model.specs.Directory.{directory, forkOf, forksIn, blockCount, sameName}
 use Rattle.model.specs.Check.{Accepted}
 use Rattle.model.specs.Calls.{Call, Answer, nameOf, forkGiven, Known, badName, refuses, entryNamed, knownIn, readCount, copied, answer, after, lent, Does}
-use Rattle.model.specs.Calls.Call.{check, entry, find, block, read, create, write, cut, delete}
+use Rattle.model.specs.Calls.Call.{read, write, delete}
 use Rattle.history.specs.History.{File, History, blocksOf, noFile, heldOf, called, fileCalled, knownTo, declines, writes}
 use Rattle.model.specs.Bytes.{overwritten}
 use Rattle.history.specs.History.{changedFork, onCalled, moves, step, Told, toldBy, toldOnly, says, tells, filesIn, reading, Agrees, Event, Run}
@@ -32,12 +32,13 @@ use Rattle.model.specs.declared.Fork.{Fork}
 use Rattle.model.specs.declared.Fork.the-variants.{Data, Resource}
 use Rattle.model.proofs.Lists.{back}
 use Rattle.model.proofs.Check.{else-zero}
-use Rattle.laws.proofs.Reorder.{any-map, passes-still, first-changed, In, in-reordered, in-map, in-keep, in-append}
+use Rattle.laws.proofs.Reorder.{any-map, passes-still, first-changed, In, in-reordered}
 use Rattle.laws.proofs.Content.{length-overwritten, more-bytes, length-on}
 use Rattle.laws.proofs.MapChecks.{all-blocks}
-use Rattle.laws.proofs.Acceptance.{map-passes, lengths}
+use Rattle.laws.proofs.Acceptance.{map-passes}
 use Rattle.history.proofs.Answers.{rise-needed, same-free, known-same}
 use Rattle.history.proofs.Reading.{blocks-of}
+use Rattle.history.proofs.Lawful.{lawful}
 use Rattle.history.proofs.Run.{every-run}
 
 -- the claim on a list of one event
@@ -48,29 +49,13 @@ one-step e image acc m = let h : Holds image (reading image) (e ∷ []) = every-
 -- ---- Untouched and Deleting
 
 -- a file that no changing call names stays in the history
-not-called : (name : List ℕ) (f : File → File) (x : File) → called name x ≡ false → onCalled name f x ≡ x
-unfolding onCalled
-not-called name f x n = rw n
-
-moves-keep : (h : History) (call : Call) (x : File) → (changes call && called (nameOf call) x) ≡ false → In noFile x (h .files) → In noFile x (moves h call .files)
-unfolding moves changes nameOf
-moves-keep h check x n i = i
-moves-keep h (entry place) x n i = i
-moves-keep h (find name) x n i = i
-moves-keep h (block name fork place) x n i = i
-moves-keep h (read name fork offset buffer) x n i = i
-moves-keep h (create name finder created changed) x n i = in-append noFile x (h .files) _ i
-moves-keep h (write name fork offset bytes changed) x n i = in-map noFile x _ (not-called name _ x n) (h .files) i
-moves-keep h (cut name fork size changed) x n i = in-map noFile x _ (not-called name _ x n) (h .files) i
-moves-keep h (delete name) x n i = in-keep noFile x (λ y. not (called name y)) (rw n) (h .files) i
-
 step-keeps : (h : History) (full : Bool) (call : Call) (x : File) → (changes call && called (nameOf call) x) ≡ false → In noFile x (h .files)
     → In noFile x (step h full call .files)
 unfolding step
 step-keeps h full call x n i = go (eqb (declines h full call) 0)
   where
     go : (b : Bool) → In noFile x (cond b (moves h call) h .files)
-    go true = moves-keep h call x n i
+    go true = lawful call .keeps h x n i
     go false = i
 
 stays : (events : List Event) (image : List ℕ) (h : History) (x : File) → Agrees image h → Holds image h events → NoneNames (x .name) events
@@ -104,7 +89,7 @@ only-full image name fork offset bytes changed given left acc m n =
     let h = reading image in
     let a : Agrees image h = every-run image [] acc tt .0 in
     let none = one-step e image acc m .room .0 n in
-    let k = known-same image h acc a (lengths image acc) name fork in
+    let k = known-same image h acc a name fork in
     let held = heldOf fork (fileCalled name h) in
     let logical : length (held .bytes) ≡ forkOf fork (entryNamed name image) .logical = ap (λ (k : Known). k .logical) k in
     let blocks : held .count ≡ blockCount (A f) (forkOf fork (entryNamed name image)) = ap (λ (k : Known). k .blocks) k in
@@ -125,22 +110,11 @@ room = (only-full, none-hidden)
 
 -- a call's number is the history's
 told-number : (h : History) (full : Bool) (n : ℕ) (call : Call) → tells h full n call .number ≡ declines h full call
-unfolding tells toldOnly says
+unfolding tells toldOnly
 told-number h full n call = go (declines h full call) (eqb (declines h full call) 0) refl
   where
-    success : (c : Call) → says h n c .number ≡ 0
-    success check = refl
-    success (entry place) = refl
-    success (find name) = refl
-    success (block name fork place) = refl
-    success (read name fork offset buffer) = refl
-    success (create name finder created changed) = refl
-    success (write name fork offset bytes changed) = refl
-    success (cut name fork size changed) = refl
-    success (delete name) = refl
-
     go : (r : ℕ) (t : Bool) → eqb r 0 ≡ t → cond t (says h n call) (toldOnly r (lent call)) .number ≡ r
-    go r true e = success call ∙ sym (eqb-true r 0 e)
+    go r true e = lawful call .said h n ∙ sym (eqb-true r 0 e)
     go r false e = refl
 
 declined : (e : Event) (image : List ℕ) (h : History) → InStep e image h → e .given .number ≡ declines h (isFull e) (e .call)

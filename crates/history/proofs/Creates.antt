@@ -5,10 +5,11 @@ use mathlib.Core.List.{List, [], _∷_, _++_, map}
 use native.Mathlib.Omega.{arith}
 use lib.ListN.{length}
 use Rattle.model.specs.Lists.{times, Reordered}
+use Rattle.model.specs.Bytes.{Bytes}
 use Rattle.model.specs.Facts.{factsOf, N, A, S, nextNumber, freeCount, withCounts}
-use Rattle.model.specs.Directory.{directory, listing, forkOf}
+use Rattle.model.specs.Directory.{directoryBlocks, directory, listing, forkOf}
 use Rattle.model.specs.Check.{Accepted}
-use Rattle.model.specs.Calls.{newEntry}
+use Rattle.model.specs.Calls.{refusal, Fits, newEntry, placed}
 use Rattle.model.specs.Calls.Call.{create}
 use Rattle.history.specs.History.{File, History, empty, heldIn, fileIn, filesIn, factsNow, newFile, moves, OnlyNamed, Agrees}
 use Rattle.model.specs.declared.VolumeFacts.{VolumeFacts}
@@ -19,11 +20,12 @@ use Rattle.laws.proofs.MapSteps.{blankFork, Framed, blank-bytes, blank-count}
 use Rattle.laws.proofs.Entry.{new-flags, new-number, new-name, new-finder, new-created, new-changed, new-fork}
 use Rattle.laws.proofs.Blocks.{Inserted, inserted-reordered}
 use Rattle.laws.proofs.DirectorySteps.{Stepped}
-use Rattle.laws.proofs.Refusals.{MayCreate}
-use Rattle.laws.proofs.Creates.{e, newBlocks, left, inserted, step, map-changed, create-accepted}
+use Rattle.laws.proofs.Refusals.{MayCreate, may-create}
+use Rattle.laws.proofs.Creates.{left, inserted, step, map-changed, create-accepted, is-left}
+use Rattle.laws.proofs.BytesKept.{created-bytes}
 use Rattle.history.proofs.Answers.{same-next}
 use Rattle.history.proofs.Reading.{SameVolume, agrees-from, files-around}
-use Rattle.history.proofs.Joined.{only-named}
+use Rattle.history.proofs.Joined.{only-named, Done}
 
 -- a fork with no bytes and no blocks
 held-blank : (f : VolumeFacts) (image : List ℕ) (g : ForkFacts) → g ≡ blankFork → heldIn f image g ≡ empty
@@ -50,10 +52,10 @@ module _ (image : List ℕ) (acc : Accepted image) (name finder : List ℕ) (mad
   f = factsOf image
 
   abbrev new : List ℕ
-  new = e image acc name finder made changed whole m
+  new = newEntry (nextNumber f) name finder made changed
 
   abbrev all : List (List ℕ)
-  all = listing (newBlocks image acc name finder made changed whole m)
+  all = listing (placed new (directoryBlocks f image))
 
   abbrev after : List ℕ
   after = left image acc name finder made changed whole m
@@ -107,3 +109,16 @@ module _ (image : List ℕ) (acc : Accepted image) (name finder : List ℕ) (mad
   create-kept =
       only-named image (create name finder made changed) [] image after all (f .files + 1) (nextNumber f + 1) (freeCount f) (omega arith) t nothing
       (λ b k. absurd (omega arith))
+
+pub create-done : (name finder : List ℕ) (made changed : ℕ) (image : List ℕ) (h : History) → Accepted image → Agrees image h → Bytes image
+    → Fits (create name finder made changed) → refusal (create name finder made changed) image ≡ 0 → Done (create name finder made changed) image h
+unfolding Fits
+create-done name finder made changed image h acc a b w z =
+    let m = may-create image name finder made changed z in
+    let l = is-left image acc name finder made changed (w .2) m in
+    record {
+      bytes = created-bytes image acc b name finder made changed w m;
+      accepted = rw l (create-accepted image acc name finder made changed (w .2) m);
+      agrees = rw l (create-agrees image acc name finder made changed (w .2) m h a);
+      kept = rw l (create-kept image acc name finder made changed (w .2) m);
+    }

@@ -5,10 +5,12 @@ use mathlib.Core.Bool.{not}
 use mathlib.Core.List.{List, [], _++_, map}
 use native.Mathlib.Omega.{arith}
 use Rattle.model.specs.Lists.{keep, times, Reordered}
+use Rattle.model.specs.Bytes.{Bytes}
 use Rattle.model.specs.Facts.{factsOf, N, A, nextNumber, withCounts}
 use Rattle.model.specs.Map.{mapEntry}
 use Rattle.model.specs.Directory.{directory, forkOf, named}
 use Rattle.model.specs.Check.{Accepted}
+use Rattle.model.specs.Calls.{refusal, Fits}
 use Rattle.model.specs.Calls.Call.{delete}
 use Rattle.history.specs.History.{History, heldIn, fileIn, filesIn, factsNow, called, moves, namedBlocks, blocksNamed, OnlyNamed, Agrees}
 use Rattle.model.specs.declared.VolumeFacts.{VolumeFacts}
@@ -17,18 +19,19 @@ use Rattle.model.proofs.Times.{times-append}
 use Rattle.laws.proofs.Reorder.{Alone, after-delete}
 use Rattle.laws.proofs.MapSteps.{bothBlocks}
 use Rattle.laws.proofs.DirectorySteps.{Stepped}
-use Rattle.laws.proofs.Refusals.{MayChange}
-use Rattle.laws.proofs.TheEntry.{the-entry}
-use Rattle.laws.proofs.Deletes.{o, freed, free, base, rest, left, frame, step, map-changed, listed, delete-accepted}
+use Rattle.laws.proofs.Refusals.{MayChange, may-delete}
+use Rattle.laws.proofs.TheEntry.{it-alone, the-entry}
+use Rattle.laws.proofs.Deletes.{freed, free, base, rest, left, frame, step, map-changed, listed, delete-accepted, is-left}
+use Rattle.laws.proofs.BytesKept.{deleted-bytes}
 use Rattle.history.proofs.Reading.{SameVolume, agrees-from, files-around}
-use Rattle.history.proofs.Joined.{only-named}
+use Rattle.history.proofs.Joined.{only-named, Done}
 
 module _ (image : List ℕ) (acc : Accepted image) (name : List ℕ) (m : MayChange image name) where
   abbrev f : VolumeFacts
   f = factsOf image
 
   abbrev it : Alone (named name) (directory image)
-  it = o image acc name m
+  it = it-alone image acc name (m .exists)
 
   abbrev after : List ℕ
   after = left image acc name m
@@ -58,7 +61,8 @@ module _ (image : List ℕ) (acc : Accepted image) (name : List ℕ) (m : MayCha
     unfolding filesIn called named fileIn
     in-order =
         rw filesIn-left
-        (after-delete (fileIn f image) (fileIn f after) (directory image) (a .files) (λ x. not (named name x)) (λ x. not (called name x)) (λ x. refl) same-files)
+        (after-delete (fileIn f image) (fileIn f after) (directory image) (a .files) (λ x. not (named name x)) (λ x. not (called name x))
+        (λ x. refl) same-files)
 
     pub delete-agrees : Agrees after (moves h (delete name))
     unfolding moves
@@ -75,3 +79,15 @@ module _ (image : List ℕ) (acc : Accepted image) (name : List ℕ) (m : MayCha
       only-named image (delete name) (freed image acc name m) (base image acc name m) after others (f .files - 1) (nextNumber f)
       (free image acc name m) (omega arith) t (frame image acc name m)
       (λ b k. omega (arith, times-append b (namedBlocks (delete name) image) (namedBlocks (delete name) after), ap (times b) before-blocks))
+
+pub delete-done : (name : List ℕ) (image : List ℕ) (h : History) → Accepted image → Agrees image h → Bytes image
+    → Fits (delete name) → refusal (delete name) image ≡ 0 → Done (delete name) image h
+delete-done name image h acc a b w z =
+    let m = may-delete image name z in
+    let l = is-left image acc name m in
+    record {
+      bytes = deleted-bytes image acc b name w m;
+      accepted = rw l (delete-accepted image acc name m);
+      agrees = rw l (delete-agrees image acc name m h a);
+      kept = rw l (delete-kept image acc name m);
+    }

@@ -1,19 +1,29 @@
--- What the calls that change an image have in common: only the named bytes differ, and files that the name does not call stay.
+-- What the calls have in common: what a call that is not refused must do, that only the named bytes differ, and that files which
+-- the name does not call stay.
 use Prim.Native.Nat.{ℕ, zero, suc, _+_, _≤_, _<_}
 use mathlib.Core.Path.{_≡_, refl, _∙_}
 use mathlib.Core.Bool.{false}
 use mathlib.Core.List.{List, [], _∷_, _++_, map}
 use native.Mathlib.Omega.{arith}
 use Rattle.model.specs.Lists.{any, times}
+use Rattle.model.specs.Bytes.{Bytes}
 use Rattle.model.specs.Facts.{factsOf, dirStart, dirLength, A, S}
 use Rattle.model.specs.Directory.{named}
-use Rattle.model.specs.Calls.{Call}
-use Rattle.history.specs.History.{File, called, onCalled, fileIn, namedBlocks, following, directoryAt, OnlyNamed}
+use Rattle.model.specs.Check.{Accepted}
+use Rattle.model.specs.Calls.{Call, change}
+use Rattle.history.specs.History.{File, History, moves, Agrees, called, onCalled, fileIn, namedBlocks, following, directoryAt, OnlyNamed}
 use Rattle.history.specs.History.{inBlock, inEntry, inDirectory, inFiles, inNext, inFree}
 use Rattle.model.specs.declared.VolumeFacts.{VolumeFacts}
 use Rattle.model.proofs.Lists.{or-false}
 use Rattle.laws.proofs.MapSteps.{Framed}
 use Rattle.laws.proofs.DirectorySteps.{Stepped}
+
+-- what a call that is not refused does
+pub record Done (call : Call) (image : List ℕ) (h : History) : Type 0 where
+  pub bytes : Bytes (change call image)
+  pub accepted : Accepted (change call image)
+  pub agrees : Agrees (change call image) (moves h call)
+  pub kept : OnlyNamed call image (change call image)
 
 -- what holds of a directory block holds of each in the list of it alone
 alone : (P : ℕ → Type 0) (d : ℕ) → P d → (i : ℕ) → i < 1 → P (directoryAt (record { 0 = d } ∷ []) i)
@@ -43,3 +53,15 @@ uncalled name g f image [] h = refl
 uncalled name g f image (e ∷ es) h =
     let s = or-false (named name e) (any (named name) es) h in
     rw (s .0, uncalled name g f image es (s .1))
+
+-- an image that stays has only named bytes that differ
+pub stays : (call : Call) (image : List ℕ) → OnlyNamed call image image
+stays call image =
+    record {
+      size = refl;
+      blocks = [];
+      few = omega arith;
+      first = λ i l. absurd (omega arith);
+      last = λ i l. absurd (omega arith);
+      kept = λ h n. refl;
+    }

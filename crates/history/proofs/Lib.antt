@@ -6,5 +6,6 @@ pub mod Writes
 pub mod Cuts
 pub mod Deletes
 pub mod Creates
+pub mod Lawful
 pub mod Run
 pub mod Corollaries

@@ -28,12 +28,13 @@ module _ (image : List ℕ) (acc : Accepted image) (name finder : List ℕ) (mad
   abbrev f : VolumeFacts
   f = factsOf image
 
-  abbrev pub e : List ℕ
+  abbrev e : List ℕ
   e = newEntry (nextNumber f) name finder made changed
 
-  abbrev pub newBlocks : List (List ℕ)
+  abbrev newBlocks : List (List ℕ)
   newBlocks = placed e (directoryBlocks f image)
 
+  -- the image left
   abbrev pub left : List ℕ
   left = created f image e
 
@@ -41,9 +42,11 @@ module _ (image : List ℕ) (acc : Accepted image) (name finder : List ℕ) (mad
   unfolding change
   is-left = refl
 
+  -- where the entry stands
   pub inserted : Inserted e (directory image) (listing newBlocks)
   inserted = created-inserted image (readable-of image acc) name finder made changed whole (m .title .some) (m .room)
 
+  -- what the stores of the directory and of the counts do
   pub step : Stepped image image (listing newBlocks) (f .files + 1) (nextNumber f + 1) (freeCount f) left
   step = created-step image (readable-of image acc) name finder made changed whole (m .title .some) (m .room) (m .fresh)
 
@@ -68,6 +71,7 @@ module _ (image : List ℕ) (acc : Accepted image) (name finder : List ℕ) (mad
       let split : forksIn (directory image) ≡ before ++ beyond = ap forksIn (inserted .old) ∙ forks-append (inserted .before) (inserted .behind) in
       subst (MapPasses (mapEntry image) (N f) (A f) (freeCount f)) split (map-passes image acc)
 
+  -- the forks and their bytes
   pub map-changed : Changed (S f) (A f) (N f) (freeCount f) image left before (blankFork ∷ blankFork ∷ []) beyond
   map-changed = create-changed (S f) (A f) (N f) (freeCount f) image (area image acc) before beyond passes left alike
 

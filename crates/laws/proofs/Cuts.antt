@@ -76,8 +76,8 @@ module _ (image : List ℕ) (acc : Accepted image) (name : List ℕ) (fork : For
   unfolding shortened
   alike = alike-rewritten image acc name fork n kept changed free base (frame .size)
 
-  pub cut-done : Rewritten image acc name there fork n kept old changed free left
-  cut-done = record {
+  pub cut-rewrites : Rewritten image acc name there fork n kept old changed free left
+  cut-rewrites = record {
     base = base;
     frame = frame;
     step = shortened-step image (readable-of image acc) name there fork n changed its (based image acc old base frame);
@@ -85,7 +85,7 @@ module _ (image : List ℕ) (acc : Accepted image) (name : List ℕ) (fork : For
   }
 
   pub cut-accepted : Accepted left
-  cut-accepted = rewrite-accepted cut-done
+  cut-accepted = rewrite-accepted cut-rewrites
 
   -- the fork's bytes and count of blocks afterwards
   pub now-bytes : forkBytes (S f) (A f) left (forkWith (A f) n kept) ≡ take n (forkBytes (S f) (A f) image its)

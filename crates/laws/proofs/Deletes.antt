@@ -34,12 +34,13 @@ module _ (image : List ℕ) (acc : Accepted image) (name : List ℕ) (m : MayCha
   abbrev there : any (named name) (directory image) ≡ true
   there = m .exists
 
-  abbrev pub o : Alone (named name) (directory image)
+  abbrev o : Alone (named name) (directory image)
   o = it-alone image acc name there
 
-  abbrev pub e : List ℕ
+  abbrev e : List ℕ
   e = theEntry image acc name there
 
+  -- the image left
   abbrev pub left : List ℕ
   left = deleted f image name e
 
@@ -59,6 +60,7 @@ module _ (image : List ℕ) (acc : Accepted image) (name : List ℕ) (m : MayCha
   passes : MapPasses (mapEntry image) (N f) (A f) (freeCount f) (before ++ (forkOf Data e ∷ forkOf Resource e ∷ beyond))
   passes = passes-there image acc name there Data
 
+  -- the blocks freed, the free count now, the image after that, and the entries that stay
   abbrev pub freed : List ℕ
   freed = bothBlocks (mapEntry image) (A f) (forkOf Data e) (forkOf Resource e)
 
@@ -71,6 +73,7 @@ module _ (image : List ℕ) (acc : Accepted image) (name : List ℕ) (m : MayCha
   abbrev pub rest : List (List ℕ)
   rest = keep (λ x. not (named name x)) (directory image)
 
+  -- what the stores of the map, of the directory and of the counts do
   pub frame : Framed (S f) (A f) freed image base
   frame = delete-frame (S f) (A f) (N f) (freeCount f) image (area image acc) before beyond (forkOf Data e) (forkOf Resource e) passes
 
@@ -90,6 +93,7 @@ module _ (image : List ℕ) (acc : Accepted image) (name : List ℕ) (m : MayCha
       (alike-trans (S f) (withFiles (f .files - 1) d) d base (alike-files image acc (f .files - 1) d)
       (alike-directory image acc base newBlocks (frame .size) (clean-whole newBlocks (st .clean)) (st .count ∙ blocks-count f image (r .within))))
 
+  -- the forks and their bytes
   pub map-changed : Changed (S f) (A f) (N f) free image left before [] beyond
   map-changed = delete-changed (S f) (A f) (N f) (freeCount f) image (area image acc) before beyond (forkOf Data e) (forkOf Resource e) passes left alike
 

@@ -93,8 +93,8 @@ module _ (image : List ℕ) (acc : Accepted image) (name : List ℕ) (fork : For
   unfolding written
   alike = alike-rewritten image acc name fork (sizeAfter its o xs) all changed free base (frame .size)
 
-  pub write-done : Rewritten image acc name there fork (sizeAfter its o xs) all all changed free left
-  write-done = record {
+  pub write-rewrites : Rewritten image acc name there fork (sizeAfter its o xs) all all changed free left
+  write-rewrites = record {
     base = base;
     frame = frame;
     step = written-step image (readable-of image acc) name there fork o xs changed its (based image acc all base frame);
@@ -102,7 +102,7 @@ module _ (image : List ℕ) (acc : Accepted image) (name : List ℕ) (fork : For
   }
 
   pub write-accepted : Accepted left
-  write-accepted = rewrite-accepted write-done
+  write-accepted = rewrite-accepted write-rewrites
 
   -- the fork's bytes, count of blocks and blocks afterwards
   pub now-bytes : forkBytes (S f) (A f) left (forkWith (A f) (sizeAfter its o xs) all) ≡ overwritten (forkBytes (S f) (A f) image its) o xs

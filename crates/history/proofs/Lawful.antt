@@ -1,0 +1,247 @@
+-- What is lawful for each call: every fact by which a call enters the claim on every run and what follows from it, in one record
+-- with a clause for each call.
+use Prim.Native.Nat.{ℕ}
+use mathlib.Core.Path.{_≡_, refl, sym, ap, subst, _∙_}
+use mathlib.Core.Bool.{Bool, true, false, not, _&&_, cond}
+use mathlib.Core.List.{List, []}
+use lib.ListN.{length}
+use lib.Dec.{eqb, leb, ltb}
+use borrow.Author.Tests.{not-false, ltb-true, ltb-false, lt-ltb, le-ltb}
+use Rattle.model.specs.Bytes.{Bytes}
+use Rattle.model.specs.Check.{orElse, Accepted}
+use Rattle.model.specs.Calls.{Call, nameOf, forkGiven, Known, grown, needed, badName, refuses, refusal, change, only, reply, after, Fits}
+use Rattle.model.specs.Calls.{Answer, tellsFacts, tellsEntry, tellsBlock, tellsBytes}
+use Rattle.model.specs.Calls.Call.{check, entry, find, block, read, create, write, cut, delete}
+use Rattle.history.specs.History.{File, History, noFile, heldOf, called, fileCalled, knownTo, declines, onCalled, Told, toldBy, toldOnly}
+use Rattle.history.specs.History.{says, moves, asked, changes, RoomRule, Agrees}
+use Rattle.model.specs.declared.Fork.{Fork}
+use Rattle.laws.proofs.Reorder.{In, in-map, in-keep, in-append}
+use Rattle.laws.proofs.Refusals.{no-check, other, past, fires}
+use Rattle.history.proofs.Answers.{rise-needed, only-told, check-says, entry-says, find-says, read-says}
+use Rattle.history.proofs.Joined.{Done, stays}
+use Rattle.history.proofs.Creates.{create-done}
+use Rattle.history.proofs.Writes.{write-done}
+use Rattle.history.proofs.Cuts.{cut-done}
+use Rattle.history.proofs.Deletes.{delete-done}
+
+-- what is known, but for the room for an entry
+unfoldable pub withFull : Known → Bool → Known
+withFull k full = record {
+  locked = k .locked;
+  files = k .files;
+  exists = k .exists;
+  fileLocked = k .fileLocked;
+  logical = k .logical;
+  blocks = k .blocks;
+  size = k .size;
+  free = k .free;
+  next = k .next;
+  full = full;
+}
+
+pub record Lawful (call : Call) : Type 0 where
+  -- a success has the number 0, and the history says so
+  pub answered : (image : List ℕ) → reply call image .number ≡ 0
+  pub said : (h : History) (n : ℕ) → says h n call .number ≡ 0
+  -- of the room for an entry the call needs to be told only whether it gives 18
+  pub fed : (k : Known) → refuses call k ≡ refuses call (withFull k (eqb (refuses call k) 18))
+  -- it gives 17 exactly where the claim asks for it
+  pub room : (h : History) (full : Bool) → RoomRule h call (declines h full call)
+  -- refused, or one that only reads, it changes nothing
+  pub still : (image : List ℕ) → (changes call && eqb (refusal call image) 0) ≡ false → after call image ≡ image
+  -- not refused, it tells what the history says
+  pub told : (image : List ℕ) (h : History) → Accepted image → Agrees image h → refusal call image ≡ 0
+      → toldBy (reply call image) ≡ says h (asked image call) call
+  -- not refused, it leaves an accepted image that reads as the history says, and only the named bytes differ
+  pub done : (image : List ℕ) (h : History) → Accepted image → Agrees image h → Bytes image → Fits call → refusal call image ≡ 0
+      → Done call image h
+  -- a file that it does not change by name stays in the history
+  pub keeps : (h : History) (x : File) → (changes call && called (nameOf call) x) ≡ false → In noFile x (h .files)
+      → In noFile x (moves h call .files)
+
+-- ---- calls that change nothing
+
+-- what the definitions say of every such call: image and history stay, a success has the number 0, and no refusal asks for room
+abbrev Unmoved : Type 0
+Unmoved = (List ℕ → List ℕ) × (History → History) × (List ℕ → ℕ) × (History → ℕ → ℕ) × (Known → Bool → ℕ)
+
+abbrev Reads : Call → Type 0
+Reads call =
+    _≡_ {A = Unmoved} (
+      change call,
+      λ h. moves h call,
+      λ image. reply call image .number,
+      λ h n. says h n call .number,
+      λ k full. refuses call (withFull k full),
+    )
+    (λ image. image, λ h. h, λ image. 0, λ h n. 0, λ k full. refuses call k)
+
+either-way : (t : Bool) (image : List ℕ) → cond t image image ≡ image
+either-way true image = refl
+either-way false image = refl
+
+reads : (call : Call) → Reads call → ((h : History) (full : Bool) → RoomRule h call (declines h full call))
+    → ((image : List ℕ) (h : History) → Accepted image → Agrees image h → refusal call image ≡ 0
+    → toldBy (reply call image) ≡ says h (asked image call) call)
+    → Lawful call
+unfolding after
+reads call d room told =
+    let leaves : (image : List ℕ) → change call image ≡ image = λ image. ap (λ (t : Unmoved). t .0 image) d in
+    let keeps : (h : History) → moves h call ≡ h = λ h. ap (λ (t : Unmoved). t .1 h) d in
+    record {
+      answered = λ image. ap (λ (t : Unmoved). t .2 image) d;
+      said = λ h n. ap (λ (t : Unmoved). t .3 h n) d;
+      fed = λ k. sym (ap (λ (t : Unmoved). t .4 k (eqb (refuses call k) 18)) d);
+      room = room;
+      still = λ image n.
+          let t = eqb (refusal call image) 0 in
+          ap (λ (l : List ℕ). cond t l image) (leaves image) ∙ either-way t image;
+      told = told;
+      done = λ image h acc a b w z.
+          let l = leaves image in
+          record { bytes = rw l b; accepted = rw l acc; agrees = rw (l, keeps h) a; kept = rw l (stays call image) };
+      keeps = λ h x n i. subst (λ (g : History). In noFile x (g .files)) (sym (keeps h)) i;
+    }
+
+-- ---- calls that change the image
+
+-- what the definitions say of every such call: it changes, and it tells its number alone
+abbrev Moved : Type 0
+Moved = Bool × (List ℕ → Answer) × (History → ℕ → Told)
+
+abbrev Alters : Call → Type 0
+Alters call = _≡_ {A = Moved} (changes call, reply call, λ h n. says h n call) (true, λ image. only 0 [], λ h n. toldOnly 0 [])
+
+alters : (call : Call) → Alters call
+    → ((k : Known) → refuses call k ≡ refuses call (withFull k (eqb (refuses call k) 18)))
+    → ((h : History) (full : Bool) → RoomRule h call (declines h full call))
+    → ((image : List ℕ) (h : History) → Accepted image → Agrees image h → Bytes image → Fits call → refusal call image ≡ 0 → Done call image h)
+    → ((h : History) (x : File) → (changes call && called (nameOf call) x) ≡ false → In noFile x (h .files) → In noFile x (moves h call .files))
+    → Lawful call
+unfolding after only toldOnly
+alters call d fed room done keeps =
+    let changing : changes call ≡ true = ap (λ (t : Moved). t .0) d in
+    let number : (image : List ℕ) → reply call image ≡ only 0 [] = λ image. ap (λ (t : Moved). t .1 image) d in
+    let say : (h : History) (n : ℕ) → says h n call ≡ toldOnly 0 [] = λ h n. ap (λ (t : Moved). t .2 h n) d in
+    record {
+      answered = λ image. ap (λ (r : Answer). r .number) (number image);
+      said = λ h n. ap (λ (t : Told). t .number) (say h n);
+      fed = fed;
+      room = room;
+      still = λ image n.
+          let refused : eqb (refusal call image) 0 ≡ false = rw changing at n in
+          rw refused;
+      told = λ image h acc a z. ap toldBy (number image) ∙ only-told 0 [] ∙ sym (say h (asked image call));
+      done = done;
+      keeps = keeps;
+    }
+
+-- a create needs to be told that it gives 18, and gives no 17
+create-fed : (name finder : List ℕ) (made changed : ℕ) (k : Known)
+    → refuses (create name finder made changed) k
+    ≡ refuses (create name finder made changed) (withFull k (eqb (refuses (create name finder made changed) k) 18))
+unfolding refuses withFull
+create-fed name finder made changed k = go (k .locked) (badName name) (k .exists) (eqb (k .next) 4294967295) (k .full)
+  where
+    number : (l b e n f : Bool) → ℕ
+    number l b e n f = orElse l 11 (orElse b 12 (orElse e 14 (orElse n 19 (orElse f 18 0))))
+
+    go : (l b e n f : Bool) → number l b e n f ≡ number l b e n (eqb (number l b e n f) 18)
+    go true b e n f = refl
+    go false true e n f = refl
+    go false false true n f = refl
+    go false false false true f = refl
+    go false false false false true = refl
+    go false false false false false = refl
+
+create-never : (name finder : List ℕ) (made changed : ℕ) (k : Known) → refuses (create name finder made changed) k ≡ 17 → ⊥
+unfolding refuses
+create-never name finder made changed k =
+    other (k .locked) 11 refl (other (badName name) 12 refl (other (k .exists) 14 refl
+    (other (eqb (k .next) 4294967295) 19 refl (other (k .full) 18 refl no-check))))
+
+-- a write gives 17 exactly where it needs more new blocks than are free
+write-room : (name : List ℕ) (fork : Fork) (offset : ℕ) (bytes : List ℕ) (changed : ℕ) (h : History) (full : Bool)
+    → RoomRule h (write name fork offset bytes changed) (declines h full (write name fork offset bytes changed))
+unfolding RoomRule declines refuses knownTo nameOf forkGiven
+write-room name fork offset bytes changed h full =
+    let k = knownTo h full name fork in
+    let held = heldOf fork (fileCalled name h) in
+    let need = needed (k .size) (grown (k .logical) offset (length bytes)) (k .blocks) in (
+      λ e.
+          let p₁ = past (k .locked) 11 _ refl e in
+          let p₂ = past (badName name) 12 _ refl (p₁ .1) in
+          let p₃ = past (not (k .exists)) 13 _ refl (p₂ .1) in
+          let p₄ = past (k .fileLocked) 15 _ refl (p₃ .1) in
+          let p₅ = past (ltb (k .logical) offset) 16 _ refl (p₄ .1) in
+          let within = ltb-false (k .logical) offset (p₅ .0) in
+          record {
+            unlocked = p₁ .0;
+            titled = p₂ .0;
+            there = not-false (k .exists) (p₃ .0);
+            writable = p₄ .0;
+            within = within;
+            exceeds = rw (rise-needed (k .size) offset bytes held within) (ltb-true (k .free) need (fires _ (p₅ .1)));
+          },
+      λ r.
+          let within = le-ltb (k .logical) offset (r .within) in
+          let exceeds : ltb (k .free) need ≡ true =
+          lt-ltb (k .free) need (rw (rise-needed (k .size) offset bytes held (r .within)) at (r .exceeds)) in
+          rw (r .unlocked, r .titled, r .there, r .writable, within, exceeds) refl,
+    )
+
+-- a file that the name does not call stays in the history
+not-called : (name : List ℕ) (f : File → File) (x : File) → called name x ≡ false → onCalled name f x ≡ x
+unfolding onCalled
+not-called name f x n = rw n
+
+-- ---- the calls
+
+-- a call none of whose tests gives 17
+never : (call : Call) → ((k : Known) → refuses call k ≡ 17 → ⊥) → (h : History) (full : Bool) → declines h full call ≡ 17 → ⊥
+unfolding declines
+never call n h full = n (knownTo h full (nameOf call) (forkGiven call))
+
+-- the tests that find, block and read share, and those that cut and delete share
+found : (name : List ℕ) (k : Known) {r : ℕ} → (r ≡ 17 → ⊥) → orElse (badName name) 12 (orElse (not (k .exists)) 13 r) ≡ 17 → ⊥
+found name k n = other (badName name) 12 refl (other (not (k .exists)) 13 refl n)
+
+unlocked : (name : List ℕ) (k : Known) {r : ℕ} → (r ≡ 17 → ⊥)
+    → orElse (k .locked) 11 (orElse (badName name) 12 (orElse (not (k .exists)) 13 (orElse (k .fileLocked) 15 r))) ≡ 17 → ⊥
+unlocked name k n = other (k .locked) 11 refl (found name k (other (k .fileLocked) 15 refl n))
+
+pub lawful : (call : Call) → Lawful call
+unfolding change moves reply says changes refuses withFull RoomRule nameOf toldBy only toldOnly tellsFacts tellsEntry tellsBlock tellsBytes
+lawful check = reads check refl (never check (λ k. no-check)) check-says
+lawful (entry place) =
+    reads (entry place) refl (never (entry place) (λ k. other (leb (k .files) place) 13 refl no-check)) (entry-says place)
+lawful (find name) =
+    reads (find name) refl (never (find name) (λ k. found name k no-check)) (find-says name)
+lawful (block name fork place) =
+    reads (block name fork place) refl
+    (never (block name fork place) (λ k. found name k (other (leb (k .blocks) place) 16 refl no-check)))
+    (λ image h acc a z. only-told 0 [])
+lawful (read name fork offset buffer) =
+    reads (read name fork offset buffer) refl
+    (never (read name fork offset buffer) (λ k. found name k (other (ltb (k .logical) offset) 16 refl no-check)))
+    (read-says name fork offset buffer)
+lawful (create name finder made changed) =
+    alters (create name finder made changed) refl (create-fed name finder made changed)
+    (never (create name finder made changed) (create-never name finder made changed))
+    (create-done name finder made changed)
+    (λ h x n i. in-append noFile x (h .files) _ i)
+lawful (write name fork offset bytes changed) =
+    alters (write name fork offset bytes changed) refl (λ k. refl)
+    (write-room name fork offset bytes changed)
+    (write-done name fork offset bytes changed)
+    (λ h x n i. in-map noFile x _ (not-called name _ x n) (h .files) i)
+lawful (cut name fork size changed) =
+    alters (cut name fork size changed) refl (λ k. refl)
+    (never (cut name fork size changed) (λ k. unlocked name k (other (ltb (k .logical) size) 16 refl no-check)))
+    (cut-done name fork size changed)
+    (λ h x n i. in-map noFile x _ (not-called name _ x n) (h .files) i)
+lawful (delete name) =
+    alters (delete name) refl (λ k. refl)
+    (never (delete name) (λ k. unlocked name k no-check))
+    (delete-done name)
+    (λ h x n i. in-keep noFile x (λ y. not (called name y)) (rw n) (h .files) i)
