@@ -134,7 +134,7 @@ module _ {f : VolumeFacts} {image : List ℕ} {e : EntryAt} (h : Held f image e)
       pub grown-fillable : Fillable l (S f) (A f) t (g .physical / A f + need)
       grown-fillable =
           let c = fork-copyable (h .readable) (h .found) fork g q in
-          let room : 512 * S f + N f * A f ≤ length image = rw (h .readable .facts) (area image (h .readable .accepted) .room) in
+          let room : 512 * S f .0 + N f * A f ≤ length image = rw (h .readable .facts) (area image (h .readable .accepted) .room) in
           record {
             n = N f;
             small = few-in-volume (h .readable);

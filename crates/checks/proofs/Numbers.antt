@@ -137,7 +137,7 @@ judged image f h e l = record {
   facts = e;
   long = l;
   directory = rw (ap (λ (g : VolumeFacts). dirStart g) e) (bytes-be16 image 1024 14 h);
-  allocation = rw (ap (λ (g : VolumeFacts). S g) e) (bytes-be16 image 1024 28 h);
+  allocation = rw (ap (λ (g : VolumeFacts). S g .0) e) (bytes-be16 image 1024 28 h);
 }
 
 pub judged-sized : (image : List ℕ) (f : VolumeFacts) → Judged f image → Sized f (length image / 512)

@@ -8,7 +8,7 @@ use Rattle.model.specs.declared.VolumeFacts.{VolumeFacts}
 pub record Sized (f : VolumeFacts) (blocks : ℕ) : Type 0 where
   pub many : 8 ≤ blocks
   pub directory : dirStart f < 65536
-  pub allocation : S f < 65536
+  pub allocation : S f .0 < 65536
 
 -- 2, 3, 4 or 0
 unfoldable pub factsNumber : VolumeFacts → ℕ → ℕ

@@ -34,4 +34,4 @@ pub record Judged (f : VolumeFacts) (image : List ℕ) : Type 0 where
   pub facts : f ≡ factsOf image
   pub long : fires1 (length image) ≡ false
   pub directory : dirStart f < 65536
-  pub allocation : S f < 65536
+  pub allocation : S f .0 < 65536

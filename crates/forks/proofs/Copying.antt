@@ -10,17 +10,18 @@ use mir.Val.{Fits}
 use lib.ListN.{length, getD, take, drop, length-drop}
 use lib.Seq.{paste, take-at, take-add, drop-drop, take-append-le, drop-append-le, drop-append-add, length-take-le}
 use Rattle.model.specs.Bytes.{part}
-use Rattle.model.specs.Facts.{factsOf, N, A, S, blockByte}
+use Rattle.model.specs.Facts.{factsOf, N, A, S}
 use Rattle.model.specs.Map.{mapEntry, runs, chainBlocks}
 use Rattle.model.specs.Directory.{directory, forkOf, blockCount, forkBlocks}
 use Rattle.model.specs.Check.{SoundFork, Accepted}
 use Rattle.model.specs.Calls.{bytesOf, forkBytes, readCount, copied}
 use Rattle.model.specs.declared.ForkFacts.{ForkFacts}
 use Rattle.model.specs.declared.Fork.{Fork}
+use Rattle.model.specs.declared.LogicalBlock.{LogicalBlock}
 use Rattle.model.proofs.Map.{block-low, block-high, runs-block, runs-rest, chain-runs}
 use Rattle.model.proofs.Check.{good-fork, fork-good, fork-block}
 use Rattle.laws.proofs.Chains.{good}
-use Rattle.laws.proofs.Content.{Inside, length-bytes, part-take}
+use Rattle.laws.proofs.Content.{byteOf, Inside, length-bytes, part-take}
 use Rattle.laws.proofs.Acceptance.{sound-fork, area}
 use Rattle.blockmap.specs.Places.{HasPlace, IsPlace}
 use Rattle.blockmap.proofs.Chains.{chain-most}
@@ -47,42 +48,42 @@ part-front x y q j h =
     let h₁ : j ≤ length (drop q x) = omega (arith, length-drop q x) in
     rw (drop-append-le, take-append-le)
 
-module _ (image : List ℕ) (s a : ℕ) where
-  length-block : (b : ℕ) → blockByte s a b + a ≤ length image → length (part (blockByte s a b) a image) ≡ a
-  length-block b h = length-take-le a (drop (blockByte s a b) image) (omega (arith, length-drop (blockByte s a b) image))
+module _ (image : List ℕ) (s : LogicalBlock) (a : ℕ) where
+  length-block : (b : ℕ) → byteOf s a b + a ≤ length image → length (part (byteOf s a b) a image) ≡ a
+  length-block b h = length-take-le a (drop (byteOf s a b) image) (omega (arith, length-drop (byteOf s a b) image))
 
   -- from behind the first block, and within it
-  read-skip : (b : ℕ) (bs : List ℕ) (o : ℕ) → blockByte s a b + a ≤ length image
+  read-skip : (b : ℕ) (bs : List ℕ) (o : ℕ) → byteOf s a b + a ≤ length image
       → drop (a + o) (bytesOf s a image (b ∷ bs)) ≡ drop o (bytesOf s a image bs)
   unfolding bytesOf
   read-skip b bs o h =
-      ap (λ i. drop (i + o) (part (blockByte s a b) a image ++ bytesOf s a image bs)) (sym (length-block b h))
-      ∙ drop-append-add (part (blockByte s a b) a image) (bytesOf s a image bs) o
+      ap (λ i. drop (i + o) (part (byteOf s a b) a image ++ bytesOf s a image bs)) (sym (length-block b h))
+      ∙ drop-append-add (part (byteOf s a b) a image) (bytesOf s a image bs) o
 
-  read-here : (b : ℕ) (bs : List ℕ) (o k : ℕ) → blockByte s a b + a ≤ length image → o + k ≤ a
-      → part o k (bytesOf s a image (b ∷ bs)) ≡ part (blockByte s a b + o) k image
+  read-here : (b : ℕ) (bs : List ℕ) (o k : ℕ) → byteOf s a b + a ≤ length image → o + k ≤ a
+      → part o k (bytesOf s a image (b ∷ bs)) ≡ part (byteOf s a b + o) k image
   unfolding bytesOf
   read-here b bs o k h fits =
       let e = length-block b h in
-      let q = blockByte s a b in
+      let q = byteOf s a b in
       part-front (part q a image) (bytesOf s a image bs) o k (omega arith) ∙ part-take a o k (drop q image) fits
       ∙ ap (take k) (drop-drop o q image)
 
 -- xs are the bytes of a chain in the image from block b on, from place `within` of that block on; `rest` blocks stand behind it
-pub record Onward (image : List ℕ) (s a : ℕ) (xs : List ℕ) (b within : ℕ) : Type 0 where
+pub record Onward (image : List ℕ) (s : LogicalBlock) (a : ℕ) (xs : List ℕ) (b within : ℕ) : Type 0 where
   pub n : ℕ
   pub small : n ≤ 640
-  pub room : 512 * s + n * a ≤ length image
+  pub room : 512 * s .0 + n * a ≤ length image
   pub rest : ℕ
   pub chain : runs (mapEntry image) n (suc rest) b ≡ true
   pub reads : xs ≡ drop within (bytesOf s a image (b ∷ chainBlocks (mapEntry image) rest (mapEntry image b)))
 
 -- blocks 2 to N+1 lie in the image
-lies : (image : List ℕ) (s a n b : ℕ) → 512 * s + n * a ≤ length image → 2 ≤ b → b ≤ n + 1 → blockByte s a b + a ≤ length image
+lies : (image : List ℕ) (s : LogicalBlock) (a n b : ℕ) → 512 * s .0 + n * a ≤ length image → 2 ≤ b → b ≤ n + 1 → byteOf s a b + a ≤ length image
 lies image s a n b room low high = omega (arith, mul-le-mul-right {m = suc (b - 2)} {n = n} a (omega arith))
 
-module _ (image : List ℕ) (s a n : ℕ) (small : n ≤ 640) (room : 512 * s + n * a ≤ length image) where
-  chain-lies : (k b : ℕ) → runs (mapEntry image) n (suc k) b ≡ true → blockByte s a b + a ≤ length image
+module _ (image : List ℕ) (s : LogicalBlock) (a n : ℕ) (small : n ≤ 640) (room : 512 * s .0 + n * a ≤ length image) where
+  chain-lies : (k b : ℕ) → runs (mapEntry image) n (suc k) b ≡ true → byteOf s a b + a ≤ length image
   chain-lies k b h = let r = runs-block (mapEntry image) n k b h in lies image s a n b room (block-low n b r) (block-high n b r)
 
   -- so it is at each place of a chain
@@ -114,15 +115,15 @@ module _ (image : List ℕ) (s a n : ℕ) (small : n ≤ 640) (room : 512 * s + 
         reads = ap (λ j. drop j (bytesOf s a image (t ∷ bs))) i ∙ read-skip image s a t bs (place * a + within) (chain-lies k t h) ∙ r .reads;
       }
 
-module _ (image : List ℕ) (s a : ℕ) (xs : List ℕ) (b within : ℕ) (h : Onward image s a xs b within) where
+module _ (image : List ℕ) (s : LogicalBlock) (a : ℕ) (xs : List ℕ) (b within : ℕ) (h : Onward image s a xs b within) where
   pub onward-block : (2 ≤ b) × (b ≤ 641)
   onward-block = let r = runs-block (mapEntry image) (h .n) (h .rest) b (h .chain) in (block-low (h .n) b r, omega (arith, block-high (h .n) b r, h .small))
 
-  pub onward-lies : blockByte s a b + a ≤ length image
+  pub onward-lies : byteOf s a b + a ≤ length image
   onward-lies = chain-lies image s a (h .n) (h .small) (h .room) (h .rest) b (h .chain)
 
   -- the bytes in this block
-  onward-here : (j : ℕ) → within + j ≤ a → part (blockByte s a b + within) j image ≡ take j xs
+  onward-here : (j : ℕ) → within + j ≤ a → part (byteOf s a b + within) j image ≡ take j xs
   onward-here j fits =
       sym (ap (take j) (h .reads) ∙ read-here image s a b (chainBlocks (mapEntry image) (h .rest) (mapEntry image b)) within j onward-lies fits)
 
@@ -147,31 +148,31 @@ module _ (image : List ℕ) (s a : ℕ) (xs : List ℕ) (b within : ℕ) (h : On
 
 -- Of count bytes from place `within₀` of block b₀ on, the first `done` are copied, and the next stands at place `within` of
 -- block b.
-pub record Midway (image : List ℕ) (s a count b₀ within₀ : ℕ) (before : List ℕ) (b within done : ℕ) (buffer : List ℕ) : Type 0 where
+pub record Midway (image : List ℕ) (s : LogicalBlock) (a count b₀ within₀ : ℕ) (before : List ℕ) (b within done : ℕ) (buffer : List ℕ) : Type 0 where
   pub more : done < count
   pub here : within < a
   pub size : length buffer ≡ length before
   pub onward : (xs : List ℕ) → Onward image s a xs b₀ within₀ → count ≤ length xs → Onward image s a (drop done xs) b within
   pub copied : (xs : List ℕ) → Onward image s a xs b₀ within₀ → count ≤ length xs → buffer ≡ take done xs ++ drop done before
 
-pub midway-first : (image : List ℕ) (s a count b within : ℕ) (before : List ℕ) → 1 ≤ count → within < a
+pub midway-first : (image : List ℕ) (s : LogicalBlock) (a count b within : ℕ) (before : List ℕ) → 1 ≤ count → within < a
     → Midway image s a count b within before b within 0 before
 midway-first image s a count b within before some here =
     record { more = some; here = here; size = refl; onward = λ xs o l. o; copied = λ xs o l. refl }
 
-module _ (image : List ℕ) (s a count b₀ within₀ : ℕ) (before : List ℕ) (b within done : ℕ) (buffer : List ℕ)
+module _ (image : List ℕ) (s : LogicalBlock) (a count b₀ within₀ : ℕ) (before : List ℕ) (b within done : ℕ) (buffer : List ℕ)
     (m : Midway image s a count b₀ within₀ before b within done buffer) (fits : count ≤ length before) where
   -- with the next j bytes of block b
   pub midway-copied : (j : ℕ) → within + j ≤ a → done + j ≤ count → (xs : List ℕ) → Onward image s a xs b₀ within₀ → count ≤ length xs
-      → paste buffer done (drop (blockByte s a b + within) image) j ≡ take (done + j) xs ++ drop (done + j) before
+      → paste buffer done (drop (byteOf s a b + within) image) j ≡ take (done + j) xs ++ drop (done + j) before
   midway-copied j inner due xs o l =
-      ap (λ x. paste x done (drop (blockByte s a b + within) image) j) (m .copied xs o l)
-      ∙ copy-on before xs (drop (blockByte s a b + within) image) done j (omega arith) (omega arith)
+      ap (λ x. paste x done (drop (byteOf s a b + within) image) j) (m .copied xs o l)
+      ∙ copy-on before xs (drop (byteOf s a b + within) image) done j (omega arith) (omega arith)
       (onward-here image s a (drop done xs) b within (m .onward xs o l) j inner)
 
   -- the block's end is reached, and more is due
   pub midway-next : (j next : ℕ) (after : List ℕ) → within + j ≡ a → done + j < count → length after ≡ length buffer
-      → after ≡ paste buffer done (drop (blockByte s a b + within) image) j → next ≡ mapEntry image b
+      → after ≡ paste buffer done (drop (byteOf s a b + within) image) j → next ≡ mapEntry image b
       → Midway image s a count b₀ within₀ before next 0 (done + j) after
   midway-next j next after end due long e q = record {
     more = due;
@@ -185,10 +186,10 @@ module _ (image : List ℕ) (s a count b₀ within₀ : ℕ) (before : List ℕ)
 -- ---- a fork
 
 -- the bytes of a fork's blocks from an offset on
-abbrev pub bytesFrom : List ℕ → ℕ → ℕ → ForkFacts → ℕ → List ℕ
+abbrev pub bytesFrom : List ℕ → LogicalBlock → ℕ → ForkFacts → ℕ → List ℕ
 bytesFrom image s a g offset = drop offset (bytesOf s a image (forkBlocks (mapEntry image) a g))
 
-module _ (image : List ℕ) (s a : ℕ) (g : ForkFacts) (h : Copyable image s a g) where
+module _ (image : List ℕ) (s : LogicalBlock) (a : ℕ) (g : ForkFacts) (h : Copyable image s a g) where
   sound : SoundFork (mapEntry image) (h .n) a g
   sound = good-fork (mapEntry image) (h .n) a g (h .good)
 

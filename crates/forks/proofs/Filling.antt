@@ -10,13 +10,13 @@ use lib.ListN.{length, getD, take, drop, length-drop, take-append-drop}
 use lib.Seq.{paste, paste-zero, take-at, drop-at, drop-drop, take-add, take-take, take-append-le, drop-append-le, take-append-add, drop-append-add, length-take-le, length-paste, take-length, drop-length}
 use Rattle.model.specs.Lists.{times}
 use Rattle.model.specs.Bytes.{part}
-use Rattle.model.specs.Facts.{blockByte}
 use Rattle.model.specs.Map.{mapEntry, runs, chainBlocks}
 use Rattle.model.specs.Calls.{bytesOf, putBlocks, putContent}
+use Rattle.model.specs.declared.LogicalBlock.{LogicalBlock}
 use Rattle.model.proofs.Times.{times-head, times-tail}
 use Rattle.laws.proofs.Joins.{other}
 use Rattle.model.proofs.Map.{runs-block, runs-rest, block-low, block-high, chain-low, chain-high, chain-once}
-use Rattle.laws.proofs.Content.{Inside, bytes-same, part-clear, blocks-apart}
+use Rattle.laws.proofs.Content.{byteOf, Inside, bytes-same, part-clear, blocks-apart}
 use Rattle.laws.proofs.Alike.{entries-frame}
 use Rattle.blockmap.specs.Places.{HasPlace, IsPlace}
 use Rattle.blockmap.proofs.Chains.{chain-most}
@@ -62,7 +62,7 @@ paste-across x y o k xs h low c =
     (ap (λ u. take o x ++ u ++ (drop (o + k) x ++ z)) (sym (take-append-drop k xs))
     ∙ simp append-assoc (ap (λ u. take o x ++ (take k xs ++ u)) (swap (drop k xs) (drop (o + k) x) z (one-empty x o k xs c))))
 
-module _ (s a : ℕ) where
+module _ (s : LogicalBlock) (a : ℕ) where
   -- a paste of a part with a paste in it
   paste-inner : (l : List ℕ) (q : ℕ) (o k : ℕ) (xs c : List ℕ) → q + a ≤ length l → o + k ≤ a → k ≤ length xs
       → paste l q (paste (part q a l) o xs k ++ c) a ≡ paste l (q + o) xs k
@@ -78,35 +78,35 @@ module _ (s a : ℕ) where
   clear x q o k h (inl e) = inl (omega arith)
   clear x q o k h (inr e) = inr (omega arith)
 
-  length-block : (l : List ℕ) (b : ℕ) → blockByte s a b + a ≤ length l → length (part (blockByte s a b) a l) ≡ a
-  length-block l b h = length-take-le a (drop (blockByte s a b) l) (omega (arith, length-drop (blockByte s a b) l))
+  length-block : (l : List ℕ) (b : ℕ) → byteOf s a b + a ≤ length l → length (part (byteOf s a b) a l) ≡ a
+  length-block l b h = length-take-le a (drop (byteOf s a b) l) (omega (arith, length-drop (byteOf s a b) l))
 
   -- ---- a write, block by block
 
   -- a block at which nothing is written is not stored
-  put-skip : (l : List ℕ) (b : ℕ) (bs c : List ℕ) → blockByte s a b + a ≤ length l
-      → putBlocks s a l (b ∷ bs) (part (blockByte s a b) a l ++ c) ≡ putBlocks s a l bs c
+  put-skip : (l : List ℕ) (b : ℕ) (bs c : List ℕ) → byteOf s a b + a ≤ length l
+      → putBlocks s a l (b ∷ bs) (part (byteOf s a b) a l ++ c) ≡ putBlocks s a l bs c
   unfolding putBlocks
   put-skip l b bs c h =
-      ap₂ (λ m x. putBlocks s a m bs x) (paste-own l (blockByte s a b) a c h) (drop-at (part (blockByte s a b) a l) c a (length-block l b h))
+      ap₂ (λ m x. putBlocks s a m bs x) (paste-own l (byteOf s a b) a c h) (drop-at (part (byteOf s a b) a l) c a (length-block l b h))
 
-  pub content-skip : (l : List ℕ) (b : ℕ) (bs : List ℕ) (o : ℕ) (xs : List ℕ) → blockByte s a b + a ≤ length l
+  pub content-skip : (l : List ℕ) (b : ℕ) (bs : List ℕ) (o : ℕ) (xs : List ℕ) → byteOf s a b + a ≤ length l
       → putContent s a l (b ∷ bs) (a + o) xs ≡ putContent s a l bs o xs
   unfolding putContent bytesOf
   content-skip l b bs o xs h =
       ap (putBlocks s a l (b ∷ bs))
-      (ap (λ i. paste (part (blockByte s a b) a l ++ bytesOf s a l bs) (i + o) xs (length xs)) (sym (length-block l b h))
-      ∙ paste-behind (part (blockByte s a b) a l) (bytesOf s a l bs) o xs)
+      (ap (λ i. paste (part (byteOf s a b) a l ++ bytesOf s a l bs) (i + o) xs (length xs)) (sym (length-block l b h))
+      ∙ paste-behind (part (byteOf s a b) a l) (bytesOf s a l bs) o xs)
       ∙ put-skip l b bs (paste (bytesOf s a l bs) o xs (length xs)) h
 
   -- the first k bytes go to the first block: all of them, or up to the block's end
   pub content-here : (l : List ℕ) (b : ℕ) (bs : List ℕ) (o k : ℕ) (xs : List ℕ) → Inside s a l (b ∷ bs) → times b bs ≡ 0 → k ≤ length xs → o + k ≤ a
       → (o + k ≡ a) ⊎ (k ≡ length xs)
-      → putContent s a l (b ∷ bs) o xs ≡ putContent s a (paste l (blockByte s a b + o) xs k) bs 0 (drop k xs)
+      → putContent s a l (b ∷ bs) o xs ≡ putContent s a (paste l (byteOf s a b + o) xs k) bs 0 (drop k xs)
   unfolding putContent bytesOf putBlocks
   content-here l b bs o k xs w z low fits c =
       let i = w b (omega (arith, times-head b bs)) in
-      let q = blockByte s a b in
+      let q = byteOf s a b in
       let e = length-block l b (i .1) in
       let x = part q a l in
       let m = paste l (q + o) xs k in
@@ -115,8 +115,8 @@ module _ (s a : ℕ) where
       ap (λ u. putBlocks s a (paste l q u a) bs (drop a u)) (paste-across x (bytesOf s a l bs) o k xs (omega arith) low c′)
       ∙ ap₂ (λ u v. putBlocks s a u bs v) (paste-inner l q o k xs r (i .1) fits low) (drop-at (paste x o xs k) r a (length-paste x o xs k (omega arith) low ∙ e))
       ∙ ap (λ u. putBlocks s a m bs (paste u 0 (drop k xs) (length (drop k xs))))
-      (sym (bytes-same s a m l bs (λ y p. part-clear l (q + o) xs k (omega arith) low (blockByte s a y) a
-      (clear (blockByte s a y) q o k fits (blocks-apart s a y b (w y (omega (arith, times-tail y b bs)) .0) (i .0) (other y b bs (omega (arith, times-head b bs)) p))))))
+      (sym (bytes-same s a m l bs (λ y p. part-clear l (q + o) xs k (omega arith) low (byteOf s a y) a
+      (clear (byteOf s a y) q o k fits (blocks-apart s a y b (w y (omega (arith, times-tail y b bs)) .0) (i .0) (other y b bs (omega (arith, times-head b bs)) p))))))
 
   -- a write of nothing
   put-nothing : (l bs : List ℕ) → Inside s a l bs → putBlocks s a l bs (bytesOf s a l bs) ≡ l
@@ -132,17 +132,18 @@ module _ (s a : ℕ) where
 -- ---- a chain
 
 -- the blocks of a chain lie in an image that is as long
-chain-inside : (e : ℕ → ℕ) (s a n k t : ℕ) (l : List ℕ) → runs e n k t ≡ true → 512 * s + n * a ≤ length l → Inside s a l (chainBlocks e k t)
+chain-inside : (e : ℕ → ℕ) (s : LogicalBlock) (a n k t : ℕ) (l : List ℕ) → runs e n k t ≡ true → 512 * s .0 + n * a ≤ length l
+    → Inside s a l (chainBlocks e k t)
 chain-inside e s a n k t l h room b p =
     let low = chain-low e n k t b h p in
     (low, omega (arith, mul-le-mul-right {m = suc (b - 2)} {n = n} a (omega (arith, chain-high e n k t b h p))))
 
 -- xs are due from place `within` of block b on, in an image with the map of `first`; stored there, they leave `result`
-pub record Due (first : List ℕ) (s a : ℕ) (image : List ℕ) (b within : ℕ) (xs result : List ℕ) : Type 0 where
+pub record Due (first : List ℕ) (s : LogicalBlock) (a : ℕ) (image : List ℕ) (b within : ℕ) (xs result : List ℕ) : Type 0 where
   pub n : ℕ
   pub small : n ≤ 640
-  pub low : 2048 ≤ 512 * s
-  pub room : 512 * s + n * a ≤ length image
+  pub low : 2048 ≤ 512 * s .0
+  pub room : 512 * s .0 + n * a ≤ length image
   pub rest : ℕ
   pub chain : runs (mapEntry first) n (suc rest) b ≡ true
   pub fits : within + length xs ≤ suc rest * a
@@ -150,7 +151,7 @@ pub record Due (first : List ℕ) (s a : ℕ) (image : List ℕ) (b within : ℕ
   pub leaves : putContent s a image (chainBlocks (mapEntry first) (suc rest) b) within xs ≡ result
 
 -- so it is at each place of a chain
-pub due-at : (image : List ℕ) (s a n : ℕ) → n ≤ 640 → 2048 ≤ 512 * s → 512 * s + n * a ≤ length image
+pub due-at : (image : List ℕ) (s : LogicalBlock) (a n : ℕ) → n ≤ 640 → 2048 ≤ 512 * s .0 → 512 * s .0 + n * a ≤ length image
     → (k t place within : ℕ) (xs : List ℕ) → runs (mapEntry image) n k t ≡ true → place < k → place * a + within + length xs ≤ k * a
     → Due image s a image (getD (chainBlocks (mapEntry image) k t) place 0) within xs (putContent s a image (chainBlocks (mapEntry image) k t) (place * a + within) xs)
 unfolding chainBlocks
@@ -187,7 +188,7 @@ due-at image s a n small low room (suc k) t (suc place) within xs h l f =
           ∙ ap (λ j. putContent s a image (t ∷ chainBlocks e k (e t)) j xs) i;
     }
 
-module _ (first : List ℕ) (s a : ℕ) (image : List ℕ) (b within : ℕ) (xs result : List ℕ) (h : Due first s a image b within xs result) where
+module _ (first : List ℕ) (s : LogicalBlock) (a : ℕ) (image : List ℕ) (b within : ℕ) (xs result : List ℕ) (h : Due first s a image b within xs result) where
   pub due-block : (2 ≤ b) × (b ≤ 641)
   due-block =
       let r = runs-block (mapEntry first) (h .n) (h .rest) b (h .chain) in
@@ -196,46 +197,46 @@ module _ (first : List ℕ) (s a : ℕ) (image : List ℕ) (b within : ℕ) (xs 
   due-inside : Inside s a image (chainBlocks (mapEntry first) (suc (h .rest)) b)
   due-inside = chain-inside (mapEntry first) s a (h .n) (suc (h .rest)) b image (h .chain) (h .room)
 
-  pub due-lies : blockByte s a b + a ≤ length image
+  pub due-lies : byteOf s a b + a ≤ length image
   unfolding chainBlocks
   due-lies = due-inside b (omega (arith, times-head b (chainBlocks (mapEntry first) (h .rest) (mapEntry first b)))) .1
 
   -- the store does not touch the map
-  pub due-map : (j : ℕ) → j ≤ length xs → within + j ≤ a → part 1088 960 (paste image (blockByte s a b + within) xs j) ≡ part 1088 960 first
+  pub due-map : (j : ℕ) → j ≤ length xs → within + j ≤ a → part 1088 960 (paste image (byteOf s a b + within) xs j) ≡ part 1088 960 first
   due-map j some inner =
-      part-clear image (blockByte s a b + within) xs j (omega (arith, due-lies)) some 1088 960 (inl (omega (arith, h .low))) ∙ h .map
+      part-clear image (byteOf s a b + within) xs j (omega (arith, due-lies)) some 1088 960 (inl (omega (arith, h .low))) ∙ h .map
 
   -- the bytes of this block, and those from the next on
   due-here : (j : ℕ) → j ≤ length xs → within + j ≤ a → (within + j ≡ a) ⊎ (j ≡ length xs)
-      → putContent s a (paste image (blockByte s a b + within) xs j) (chainBlocks (mapEntry first) (h .rest) (mapEntry first b)) 0 (drop j xs) ≡ result
+      → putContent s a (paste image (byteOf s a b + within) xs j) (chainBlocks (mapEntry first) (h .rest) (mapEntry first b)) 0 (drop j xs) ≡ result
   unfolding chainBlocks
   due-here j some inner c =
       let bs = chainBlocks (mapEntry first) (h .rest) (mapEntry first b) in
       let once : times b bs ≡ 0 = omega (arith, chain-once (mapEntry first) (h .n) (suc (h .rest)) b b (h .chain), times-head b bs) in
       sym (content-here s a image b bs within j xs due-inside once some inner c) ∙ h .leaves
 
-  long : (j : ℕ) → j ≤ length xs → within + j ≤ a → length (paste image (blockByte s a b + within) xs j) ≡ length image
-  long j some inner = length-paste image (blockByte s a b + within) xs j (omega (arith, due-lies)) some
+  long : (j : ℕ) → j ≤ length xs → within + j ≤ a → length (paste image (byteOf s a b + within) xs j) ≡ length image
+  long j some inner = length-paste image (byteOf s a b + within) xs j (omega (arith, due-lies)) some
 
   -- all bytes are stored
-  pub due-last : (j : ℕ) → j ≡ length xs → within + j ≤ a → paste image (blockByte s a b + within) xs j ≡ result
+  pub due-last : (j : ℕ) → j ≡ length xs → within + j ≤ a → paste image (byteOf s a b + within) xs j ≡ result
   due-last j e inner =
-      let after = paste image (blockByte s a b + within) xs j in
+      let after = paste image (byteOf s a b + within) xs j in
       let bs = chainBlocks (mapEntry first) (h .rest) (mapEntry first b) in
-      let room : 512 * s + h .n * a ≤ length after = omega (arith, h .room, long j (omega arith) inner) in
+      let room : 512 * s .0 + h .n * a ≤ length after = omega (arith, h .room, long j (omega arith) inner) in
       let w = chain-inside (mapEntry first) s a (h .n) (h .rest) (mapEntry first b) after (runs-rest (mapEntry first) (h .n) (h .rest) b (h .chain)) room in
       let none : drop j xs ≡ [] = ap (λ i. drop i xs) e ∙ drop-length xs in
       sym (content-none s a after bs 0 w) ∙ ap (putContent s a after bs 0) (sym none) ∙ due-here j (omega arith) inner (inr e)
 
   -- the block's end is reached, and more is due
   pub due-next : (j : ℕ) → within + j ≡ a → j < length xs
-      → Due first s a (paste image (blockByte s a b + within) xs j) (mapEntry first b) 0 (drop j xs) result
+      → Due first s a (paste image (byteOf s a b + within) xs j) (mapEntry first b) 0 (drop j xs) result
   due-next j end more =
       go (h .rest) (runs-rest (mapEntry first) (h .n) (h .rest) b (h .chain)) (omega (arith, length-drop j xs, h .fits)) (due-here j (omega arith) (omega arith) (inl end))
     where
       go : (k : ℕ) → runs (mapEntry first) (h .n) k (mapEntry first b) ≡ true → length (drop j xs) ≤ k * a
-          → putContent s a (paste image (blockByte s a b + within) xs j) (chainBlocks (mapEntry first) k (mapEntry first b)) 0 (drop j xs) ≡ result
-          → Due first s a (paste image (blockByte s a b + within) xs j) (mapEntry first b) 0 (drop j xs) result
+          → putContent s a (paste image (byteOf s a b + within) xs j) (chainBlocks (mapEntry first) k (mapEntry first b)) 0 (drop j xs) ≡ result
+          → Due first s a (paste image (byteOf s a b + within) xs j) (mapEntry first b) 0 (drop j xs) result
       go zero r f e = absurd (omega (arith, length-drop j xs))
       go (suc k) r f e = record {
         n = h .n;
@@ -253,27 +254,27 @@ module _ (first : List ℕ) (s a : ℕ) (image : List ℕ) (b within : ℕ) (xs 
 
 -- Of the bytes xs, due from place `within₀` of block b₀ on, the first `done` are stored, and the next belongs at place `within`
 -- of block b.
-pub record Partway (first : List ℕ) (s a : ℕ) (xs : List ℕ) (b₀ within₀ b within done : ℕ) (image : List ℕ) : Type 0 where
+pub record Partway (first : List ℕ) (s : LogicalBlock) (a : ℕ) (xs : List ℕ) (b₀ within₀ b within done : ℕ) (image : List ℕ) : Type 0 where
   pub more : done < length xs
   pub here : within < a
   pub size : length image ≡ length first
   pub due : (result : List ℕ) → Due first s a first b₀ within₀ xs result → Due first s a image b within (drop done xs) result
 
-pub partway-first : (image : List ℕ) (s a : ℕ) (xs : List ℕ) (b within : ℕ) → 1 ≤ length xs → within < a
+pub partway-first : (image : List ℕ) (s : LogicalBlock) (a : ℕ) (xs : List ℕ) (b within : ℕ) → 1 ≤ length xs → within < a
     → Partway image s a xs b within b within 0 image
 partway-first image s a xs b within some here = record { more = some; here = here; size = refl; due = λ r d. d }
 
-module _ (first : List ℕ) (s a : ℕ) (xs : List ℕ) (b₀ within₀ b within done : ℕ) (image : List ℕ)
+module _ (first : List ℕ) (s : LogicalBlock) (a : ℕ) (xs : List ℕ) (b₀ within₀ b within done : ℕ) (image : List ℕ)
     (m : Partway first s a xs b₀ within₀ b within done image) where
   -- the last bytes
   pub partway-last : (j : ℕ) → within + j ≤ a → done + j ≡ length xs → (result : List ℕ) → Due first s a first b₀ within₀ xs result
-      → paste image (blockByte s a b + within) (drop done xs) j ≡ result
+      → paste image (byteOf s a b + within) (drop done xs) j ≡ result
   partway-last j inner end result d =
       due-last first s a image b within (drop done xs) result (m .due result d) j (omega (arith, length-drop done xs)) inner
 
   -- the next block, as the image after the store has it
   pub partway-next : (j next : ℕ) (after : List ℕ) → within + j ≡ a → done + j < length xs → length after ≡ length image
-      → after ≡ paste image (blockByte s a b + within) (drop done xs) j → next ≡ mapEntry after b
+      → after ≡ paste image (byteOf s a b + within) (drop done xs) j → next ≡ mapEntry after b
       → Partway first s a xs b₀ within₀ next 0 (done + j) after
   partway-next j next after end more long e q = record {
     more = more;
@@ -296,7 +297,7 @@ module _ (first : List ℕ) (s a : ℕ) (xs : List ℕ) (b₀ within₀ b within
 
 -- ---- the chain that is filled
 
-module _ (image : List ℕ) (s a t k : ℕ) (h : Fillable image s a t k) (offset : ℕ) (xs : List ℕ) (fits : offset + length xs ≤ k * a) where
+module _ (image : List ℕ) (s : LogicalBlock) (a t k : ℕ) (h : Fillable image s a t k) (offset : ℕ) (xs : List ℕ) (fits : offset + length xs ≤ k * a) where
   -- nothing is due
   pub fill-none : length xs ≡ 0 → image ≡ putContent s a image (chainBlocks (mapEntry image) k t) offset xs
   unfolding chainBlocks times

@@ -31,8 +31,8 @@ fn copy_blocks(
     count: usize,
     buffer: &mut [u8],
 )
-    requires { ⌜ Copyable (now image) (start .0) size g × (1 ≤ count) × (offset + count ≤ g .logical) × (count ≤ length (now buffer)) ⌝ }
-    ensures { λ r. ⌜ now (buffer .exit) ≡ part offset count (forkBytes (start .0) size (now (image .entry)) g) ++ drop count (now (buffer .entry)) ⌝ }
+    requires { ⌜ Copyable (now image) start size g × (1 ≤ count) × (offset + count ≤ g .logical) × (count ≤ length (now buffer)) ⌝ }
+    ensures { λ r. ⌜ now (buffer .exit) ≡ part offset count (forkBytes start size (now (image .entry)) g) ++ drop count (now (buffer .entry)) ⌝ }
 {
     let a = size as usize;
     let mut b = blockmap::block_at(image, g.start, (offset / a) as u16);
@@ -60,9 +60,9 @@ pub fn copy_fork(
     offset: usize,
     buffer: &mut [u8],
 ) -> usize
-    requires { ⌜ Copyable (now image) (start .0) size g × (offset ≤ g .logical) ⌝ }
+    requires { ⌜ Copyable (now image) start size g × (offset ≤ g .logical) ⌝ }
     ensures count { λ r. ⌜ r ≡ readCount (length (now (buffer .entry))) (g .logical) offset ⌝ }
-    ensures bytes { λ r. ⌜ now (buffer .exit) ≡ copied (forkBytes (start .0) size (now (image .entry)) g) offset (now (buffer .entry)) ⌝ }
+    ensures bytes { λ r. ⌜ now (buffer .exit) ≡ copied (forkBytes start size (now (image .entry)) g) offset (now (buffer .entry)) ⌝ }
 {
     let count = smaller(buffer.len(), g.logical as usize - offset);
     if count == 0 {
@@ -82,8 +82,8 @@ pub fn fill_fork(
     offset: usize,
     bytes: &[u8],
 )
-    requires { ⌜ Fillable (now image) (start .0) size (first .0) blocks × (offset + length (now bytes) ≤ blocks * size) ⌝ }
-    ensures { λ r. ⌜ now (image .exit) ≡ putContent (start .0) size (now (image .entry)) (chainBlocks (mapEntry (now (image .entry))) blocks (first .0)) offset (now (bytes .entry)) ⌝ }
+    requires { ⌜ Fillable (now image) start size (first .0) blocks × (offset + length (now bytes) ≤ blocks * size) ⌝ }
+    ensures { λ r. ⌜ now (image .exit) ≡ putContent start size (now (image .entry)) (chainBlocks (mapEntry (now (image .entry))) blocks (first .0)) offset (now (bytes .entry)) ⌝ }
 {
     let count = bytes.len();
     if count == 0 {

@@ -410,7 +410,7 @@ directoryAt ds i = getD ds i (record { 0 = 0 }) .0
 -- blocks: the blocks bs and their map entries (each three half-bytes), the directory blocks, the number of files, the next file
 -- number, the free count. A neighbour's half-byte and dead space are not among them.
 pub data MayDiffer (f : VolumeFacts) (bs : List ℕ) (ds : List LogicalBlock) : ℕ → Type 0 where
-  inBlock : (b h : ℕ) → 1 ≤ times b bs → Within (blockByte (S f) (A f) b) (A f) h → MayDiffer f bs ds h
+  inBlock : (b h : ℕ) → 1 ≤ times b bs → Within (blockByte (S f) (A f) (record { 0 = b })) (A f) h → MayDiffer f bs ds h
   inEntry : (b h : ℕ) → 1 ≤ times b bs → 2176 + 3 * (b - 2) ≤ h → h < 2179 + 3 * (b - 2) → MayDiffer f bs ds h
   inDirectory : (i h : ℕ) → i < length ds → Within (512 * directoryAt ds i) 512 h → MayDiffer f bs ds h
   inFiles : (h : ℕ) → Within 1036 2 h → MayDiffer f bs ds h

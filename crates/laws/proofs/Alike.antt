@@ -9,58 +9,62 @@ use lib.Seq.{sets, paste, drop-set-lt, take-set-le}
 use Rattle.model.specs.Bytes.{byte, part}
 use Rattle.model.specs.Map.{entryByte, mapEntry}
 use Rattle.model.specs.Calls.{bytesOf}
+use Rattle.model.specs.declared.LogicalBlock.{LogicalBlock}
 use Rattle.laws.proofs.Sound.{held, Each, Sound, changed}
 use Rattle.laws.proofs.Entries.{mapEntry-ext}
 use Rattle.laws.proofs.Content.{same-byte, same-part, part-clear, drop-behind, bytes-drop}
 
 -- the same map and the same blocks
-pub record Alike (s : ℕ) (l m : List ℕ) : Type 0 where
+pub record Alike (s : LogicalBlock) (l m : List ℕ) : Type 0 where
   pub entries : part 1088 960 l ≡ part 1088 960 m
-  pub blocks : drop (512 * s) l ≡ drop (512 * s) m
+  pub blocks : drop (512 * s .0) l ≡ drop (512 * s .0) m
 
-pub alike-refl : (s : ℕ) (l : List ℕ) → Alike s l l
+pub alike-refl : (s : LogicalBlock) (l : List ℕ) → Alike s l l
 alike-refl s l = record { entries = refl; blocks = refl }
 
-pub alike-sym : (s : ℕ) (l m : List ℕ) → Alike s l m → Alike s m l
+pub alike-sym : (s : LogicalBlock) (l m : List ℕ) → Alike s l m → Alike s m l
 alike-sym s l m h = record { entries = sym (h .entries); blocks = sym (h .blocks) }
 
-pub alike-trans : (s : ℕ) (l m o : List ℕ) → Alike s l m → Alike s m o → Alike s l o
+pub alike-trans : (s : LogicalBlock) (l m o : List ℕ) → Alike s l m → Alike s m o → Alike s l o
 alike-trans s l m o h k = record { entries = h .entries ∙ k .entries; blocks = h .blocks ∙ k .blocks }
 
 -- ---- stores elsewhere
 
 -- before the map, or from its end up to 512·S
-abbrev pub Outside : ℕ → ℕ → ℕ → Type 0
-Outside s q k = (q + k ≤ 1088) ⊎ ((2048 ≤ q) × (q + k ≤ 512 * s))
+abbrev pub Outside : LogicalBlock → ℕ → ℕ → Type 0
+Outside s q k = (q + k ≤ 1088) ⊎ ((2048 ≤ q) × (q + k ≤ 512 * s .0))
 
-pub alike-set : (s : ℕ) (l : List ℕ) (i v : ℕ) → 2048 ≤ 512 * s → Outside s i 1 → Alike s (set l i v) l
-alike-set s l i v h (inl k) = record { entries = ap (take 960) (drop-set-lt 1088 l i v (omega arith)); blocks = drop-set-lt (512 * s) l i v (omega arith) }
+pub alike-set : (s : LogicalBlock) (l : List ℕ) (i v : ℕ) → 2048 ≤ 512 * s .0 → Outside s i 1 → Alike s (set l i v) l
+alike-set s l i v h (inl k) = record { entries = ap (take 960) (drop-set-lt 1088 l i v (omega arith)); blocks = drop-set-lt (512 * s .0) l i v (omega arith) }
 alike-set s l i v h (inr k) =
-    record { entries = same-part 2048 1088 960 (set l i v) l (omega arith) (take-set-le 2048 l i v (k .0)); blocks = drop-set-lt (512 * s) l i v (omega arith) }
+    record {
+      entries = same-part 2048 1088 960 (set l i v) l (omega arith) (take-set-le 2048 l i v (k .0));
+      blocks = drop-set-lt (512 * s .0) l i v (omega arith);
+    }
 
-outside-tail : (s q k : ℕ) → Outside s q (suc k) → Outside s (suc q) k
+outside-tail : (s : LogicalBlock) (q k : ℕ) → Outside s q (suc k) → Outside s (suc q) k
 outside-tail s q k (inl h) = inl (omega arith)
 outside-tail s q k (inr h) = inr (omega arith, omega arith)
 
-outside-head : (s q k : ℕ) → Outside s q (suc k) → Outside s q 1
+outside-head : (s : LogicalBlock) (q k : ℕ) → Outside s q (suc k) → Outside s q 1
 outside-head s q k (inl h) = inl (omega arith)
 outside-head s q k (inr h) = inr (h .0, omega arith)
 
-pub alike-sets : (s : ℕ) (l : List ℕ) (i : ℕ) (vs : List ℕ) → 2048 ≤ 512 * s → Outside s i (length vs) → Alike s (sets l i vs) l
+pub alike-sets : (s : LogicalBlock) (l : List ℕ) (i : ℕ) (vs : List ℕ) → 2048 ≤ 512 * s .0 → Outside s i (length vs) → Alike s (sets l i vs) l
 alike-sets s l i [] h k = alike-refl s l
 alike-sets s l i (v ∷ vs) h k =
     alike-trans s (sets (set l i v) (suc i) vs) (set l i v) l (alike-sets s (set l i v) (suc i) vs h (outside-tail s i (length vs) k))
     (alike-set s l i v h (outside-head s i (length vs) k))
 
 -- directory blocks rewritten
-pub alike-paste : (s : ℕ) (l : List ℕ) (q : ℕ) (c : List ℕ) (k : ℕ) → q + k ≤ length l → k ≤ length c → 2048 ≤ 512 * s → Outside s q k → Alike s (paste l q c k) l
-alike-paste s l q c k f e h o = record { entries = part-clear l q c k f e 1088 960 (side o); blocks = drop-behind l q c k f e (512 * s) (low o) }
+pub alike-paste : (s : LogicalBlock) (l : List ℕ) (q : ℕ) (c : List ℕ) (k : ℕ) → q + k ≤ length l → k ≤ length c → 2048 ≤ 512 * s .0 → Outside s q k → Alike s (paste l q c k) l
+alike-paste s l q c k f e h o = record { entries = part-clear l q c k f e 1088 960 (side o); blocks = drop-behind l q c k f e (512 * s .0) (low o) }
   where
     side : Outside s q k → (1088 + 960 ≤ q) ⊎ (q + k ≤ 1088)
     side (inl x) = inr x
     side (inr x) = inl (x .0)
 
-    low : Outside s q k → q + k ≤ 512 * s
+    low : Outside s q k → q + k ≤ 512 * s .0
     low (inl x) = omega arith
     low (inr x) = x .1
 
@@ -84,8 +88,8 @@ sound-frame e e′ n bss s h = changed e e′ n [] [] [] bss s record {
   others = λ b low high z q. h b low high;
 }
 
-pub alike-sound : (s n : ℕ) (l m : List ℕ) (bss : List (List ℕ)) → n ≤ 640 → Alike s l m → Sound (mapEntry m) n bss → Sound (mapEntry l) n bss
+pub alike-sound : (s : LogicalBlock) (n : ℕ) (l m : List ℕ) (bss : List (List ℕ)) → n ≤ 640 → Alike s l m → Sound (mapEntry m) n bss → Sound (mapEntry l) n bss
 alike-sound s n l m bss small h k = sound-frame (mapEntry m) (mapEntry l) n bss k λ b low high. entries-frame l m b (omega arith) (h .entries)
 
-pub alike-bytes : (s a : ℕ) (l m bs : List ℕ) → Alike s l m → bytesOf s a l bs ≡ bytesOf s a m bs
-alike-bytes s a l m bs h = bytes-drop s a (512 * s) l m bs (omega arith) (h .blocks)
+pub alike-bytes : (s : LogicalBlock) (a : ℕ) (l m bs : List ℕ) → Alike s l m → bytesOf s a l bs ≡ bytesOf s a m bs
+alike-bytes s a l m bs h = bytes-drop s a (512 * s .0) l m bs (omega arith) (h .blocks)

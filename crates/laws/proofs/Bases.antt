@@ -28,10 +28,10 @@ module _ (image : List ℕ) (acc : Accepted image) where
   based bs base r =
       let f = acc .facts in
       based-bytes image base (r .size) (λ j low high. same-byte 0 1088 j base image (r .before) (omega arith) (omega arith))
-      (λ j low high. same-byte 2048 (512 * S (factsOf image) - 2048) j base image (r .between) (omega (arith, f .dirBehind)) (omega (arith, f .dirBefore)))
+      (λ j low high. same-byte 2048 (512 * S (factsOf image) .0 - 2048) j base image (r .between) (omega (arith, f .dirBehind)) (omega (arith, f .dirBefore)))
 
   -- the directory's and the counts' stores leave the map and the blocks
-  low : 2048 ≤ 512 * S (factsOf image)
+  low : 2048 ≤ 512 * S (factsOf image) .0
   low = omega (arith, acc .facts .dirBehind, acc .facts .dirBefore)
 
   pub alike-directory : (base : List ℕ) (bs : List (List ℕ)) → length base ≡ length image → Whole bs → length bs ≡ dirLength (factsOf image)

@@ -14,6 +14,7 @@ use Rattle.model.specs.Bytes.{byte, part, half}
 use Rattle.model.specs.Facts.{blockByte}
 use Rattle.model.specs.Calls.{bytesOf, putBlocks, putContent, fewest}
 use Rattle.model.specs.Bytes.{overwritten}
+use Rattle.model.specs.declared.LogicalBlock.{LogicalBlock}
 use Rattle.model.proofs.Times.{times-head, times-tail}
 use Rattle.laws.proofs.Entries.{Clear}
 use Rattle.laws.proofs.Stores.{half-same}
@@ -86,19 +87,23 @@ same-half x y h e = half-same x y h (same-byte (h / 2) 1 (h / 2) x y e (omega ar
 
 -- ---- the bytes of blocks
 
-module _ (s a : ℕ) where
+-- the first byte of block b, where b is a plain number, as in a list of blocks
+abbrev pub byteOf : LogicalBlock → ℕ → ℕ → ℕ
+byteOf s a b = blockByte s a (record { 0 = b })
+
+module _ (s : LogicalBlock) (a : ℕ) where
   -- the blocks lie in the image
   abbrev pub Inside : List ℕ → List ℕ → Type 0
-  Inside l bs = (b : ℕ) → 1 ≤ times b bs → (2 ≤ b) × (blockByte s a b + a ≤ length l)
+  Inside l bs = (b : ℕ) → 1 ≤ times b bs → (2 ≤ b) × (byteOf s a b + a ≤ length l)
 
   inside-tail : (l : List ℕ) (b : ℕ) (bs : List ℕ) → Inside l (b ∷ bs) → Inside l bs
   inside-tail l b bs w x p = w x (omega (arith, times-tail x b bs))
 
-  inside-head : (l : List ℕ) (b : ℕ) (bs : List ℕ) → Inside l (b ∷ bs) → (2 ≤ b) × (blockByte s a b + a ≤ length l)
+  inside-head : (l : List ℕ) (b : ℕ) (bs : List ℕ) → Inside l (b ∷ bs) → (2 ≤ b) × (byteOf s a b + a ≤ length l)
   inside-head l b bs w = w b (omega (arith, times-head b bs))
 
   -- two blocks don't overlap
-  lower : (x y : ℕ) → 2 ≤ x → x < y → blockByte s a x + a ≤ blockByte s a y
+  lower : (x y : ℕ) → 2 ≤ x → x < y → byteOf s a x + a ≤ byteOf s a y
   lower x y h k = omega (arith, mul-le-mul-right {m = suc (x - 2)} {n = y - 2} a (omega arith))
 
   -- the rest is long enough for the other blocks
@@ -109,40 +114,40 @@ module _ (s a : ℕ) where
   inside-kept l m bs e w x p = (w x p .0, omega (arith, w x p .1))
 
   -- one block more: what holds of the paste and of the rest
-  pasted : (l : List ℕ) (b : ℕ) (bs c : List ℕ) → Inside l (b ∷ bs) → suc (length bs) * a ≤ length c → length (paste l (blockByte s a b) c a) ≡ length l
-  pasted l b bs c w h = length-paste l (blockByte s a b) c a (inside-head l b bs w .1) (enough-rest (length bs) c h .0)
+  pasted : (l : List ℕ) (b : ℕ) (bs c : List ℕ) → Inside l (b ∷ bs) → suc (length bs) * a ≤ length c → length (paste l (byteOf s a b) c a) ≡ length l
+  pasted l b bs c w h = length-paste l (byteOf s a b) c a (inside-head l b bs w .1) (enough-rest (length bs) c h .0)
 
-  rest-inside : (l : List ℕ) (b : ℕ) (bs c : List ℕ) → Inside l (b ∷ bs) → suc (length bs) * a ≤ length c → Inside (paste l (blockByte s a b) c a) bs
-  rest-inside l b bs c w h = inside-kept l (paste l (blockByte s a b) c a) bs (pasted l b bs c w h) (inside-tail l b bs w)
+  rest-inside : (l : List ℕ) (b : ℕ) (bs c : List ℕ) → Inside l (b ∷ bs) → suc (length bs) * a ≤ length c → Inside (paste l (byteOf s a b) c a) bs
+  rest-inside l b bs c w h = inside-kept l (paste l (byteOf s a b) c a) bs (pasted l b bs c w h) (inside-tail l b bs w)
 
   pub length-put : (l bs c : List ℕ) → Inside l bs → length bs * a ≤ length c → length (putBlocks s a l bs c) ≡ length l
   unfolding putBlocks
   length-put l [] c w h = refl
   length-put l (b ∷ bs) c w h =
-      length-put (paste l (blockByte s a b) c a) bs (drop a c) (rest-inside l b bs c w h) (enough-rest (length bs) c h .1) ∙ pasted l b bs c w h
+      length-put (paste l (byteOf s a b) c a) bs (drop a c) (rest-inside l b bs c w h) (enough-rest (length bs) c h .1) ∙ pasted l b bs c w h
 
   -- what lies clear of the blocks stays
   pub put-clear : (q j : ℕ) (l bs c : List ℕ) → Inside l bs → length bs * a ≤ length c
-      → ((b : ℕ) → 1 ≤ times b bs → (q + j ≤ blockByte s a b) ⊎ (blockByte s a b + a ≤ q))
+      → ((b : ℕ) → 1 ≤ times b bs → (q + j ≤ byteOf s a b) ⊎ (byteOf s a b + a ≤ q))
       → part q j (putBlocks s a l bs c) ≡ part q j l
   unfolding putBlocks
   put-clear q j l [] c w h k = refl
   put-clear q j l (b ∷ bs) c w h k =
       let r = enough-rest (length bs) c h in
-      put-clear q j (paste l (blockByte s a b) c a) bs (drop a c) (rest-inside l b bs c w h) (r .1) (λ y p. k y (omega (arith, times-tail y b bs)))
-      ∙ part-clear l (blockByte s a b) c a (inside-head l b bs w .1) (r .0) q j (k b (omega (arith, times-head b bs)))
+      put-clear q j (paste l (byteOf s a b) c a) bs (drop a c) (rest-inside l b bs c w h) (r .1) (λ y p. k y (omega (arith, times-tail y b bs)))
+      ∙ part-clear l (byteOf s a b) c a (inside-head l b bs w .1) (r .0) q j (k b (omega (arith, times-head b bs)))
 
   -- no half-byte changes but those of the blocks
   pub put-half : (l bs c : List ℕ) (h : ℕ) → Inside l bs → length bs * a ≤ length c
-      → ((b : ℕ) → 1 ≤ times b bs → Clear (2 * blockByte s a b) (2 * blockByte s a b + 2 * a) h) → half (putBlocks s a l bs c) h ≡ half l h
+      → ((b : ℕ) → 1 ≤ times b bs → Clear (2 * byteOf s a b) (2 * byteOf s a b + 2 * a) h) → half (putBlocks s a l bs c) h ≡ half l h
   put-half l bs c h w e k =
-      same-half (putBlocks s a l bs c) l h (put-clear (h / 2) 1 l bs c w e (λ b p. clear-byte (blockByte s a b) a h (k b p)))
+      same-half (putBlocks s a l bs c) l h (put-clear (h / 2) 1 l bs c w e (λ b p. clear-byte (byteOf s a b) a h (k b p)))
 
-  pub blocks-apart : (x y : ℕ) → 2 ≤ x → 2 ≤ y → x ≢ y → (blockByte s a x + a ≤ blockByte s a y) ⊎ (blockByte s a y + a ≤ blockByte s a x)
+  pub blocks-apart : (x y : ℕ) → 2 ≤ x → 2 ≤ y → x ≢ y → (byteOf s a x + a ≤ byteOf s a y) ⊎ (byteOf s a y + a ≤ byteOf s a x)
   blocks-apart x y h k ne = elim (decLt x y) [ yes z ↦ inl (lower x y h z) | no z ↦ inr (lower y x k (omega arith)) ]
 
   -- the bytes of the blocks are those of each
-  pub bytes-same : (l m bs : List ℕ) → ((b : ℕ) → 1 ≤ times b bs → part (blockByte s a b) a l ≡ part (blockByte s a b) a m)
+  pub bytes-same : (l m bs : List ℕ) → ((b : ℕ) → 1 ≤ times b bs → part (byteOf s a b) a l ≡ part (byteOf s a b) a m)
       → bytesOf s a l bs ≡ bytesOf s a m bs
   unfolding bytesOf
   bytes-same l m [] h = refl
@@ -152,7 +157,7 @@ module _ (s a : ℕ) where
   pub put-others : (l bs c os : List ℕ) → Inside l bs → length bs * a ≤ length c
       → ((b : ℕ) → 1 ≤ times b os → (2 ≤ b) × (times b bs ≡ 0)) → bytesOf s a (putBlocks s a l bs c) os ≡ bytesOf s a l os
   put-others l bs c os w h k =
-      bytes-same (putBlocks s a l bs c) l os λ b p. put-clear (blockByte s a b) a l bs c w h
+      bytes-same (putBlocks s a l bs c) l os λ b p. put-clear (byteOf s a b) a l bs c w h
       λ x q. blocks-apart b x (k b p .0) (w x q .0) (λ e. omega (arith, k b p .1, ap (λ y. times y bs) e))
 
   -- the blocks' own bytes are those that were put
@@ -166,10 +171,10 @@ module _ (s a : ℕ) where
       let x = rest-inside l b bs c w h in
       let e : suc (length bs) * a ≡ a + length bs * a = omega arith in
       ap₂ (λ y z. y ++ z)
-      (put-clear (blockByte s a b) a (paste l (blockByte s a b) c a) bs (drop a c) x (r .1)
+      (put-clear (byteOf s a b) a (paste l (byteOf s a b) c a) bs (drop a c) x (r .1)
       (λ y p. blocks-apart b y (i .0) (x y p .0) (λ q. other y b bs (d b) p (sym q)))
-      ∙ part-same l (blockByte s a b) c a (i .1) (r .0))
-      (put-own (paste l (blockByte s a b) c a) bs (drop a c) x (λ y. omega (arith, d y, times-tail y b bs)) (r .1))
+      ∙ part-same l (byteOf s a b) c a (i .1) (r .0))
+      (put-own (paste l (byteOf s a b) c a) bs (drop a c) x (λ y. omega (arith, d y, times-tail y b bs)) (r .1))
       ∙ sym (take-add a (length bs * a) c) ∙ ap (λ k. take k c) (sym e)
 
   pub length-bytes : (l bs : List ℕ) → Inside l bs → length (bytesOf s a l bs) ≡ length bs * a
@@ -179,9 +184,9 @@ module _ (s a : ℕ) where
       let i = inside-head l b bs w in
       omega (
         arith,
-        length-append (part (blockByte s a b) a l) (bytesOf s a l bs),
+        length-append (part (byteOf s a b) a l) (bytesOf s a l bs),
         length-bytes l bs (inside-tail l b bs w),
-        length-take-le a (drop (blockByte s a b) l) (omega (arith, length-drop (blockByte s a b) l)),
+        length-take-le a (drop (byteOf s a b) l) (omega (arith, length-drop (byteOf s a b) l)),
       )
 
   pub bytes-append : (l bs cs : List ℕ) → bytesOf s a l (bs ++ cs) ≡ bytesOf s a l bs ++ bytesOf s a l cs
@@ -236,11 +241,11 @@ pub length-on : (o q : ℕ) (sofar xs : List ℕ) → o + length sofar ≡ q →
 length-on o q sofar xs p = omega (arith, length-append sofar xs, p)
 
 -- the bytes of blocks lie behind 512·S
-pub bytes-drop : (s a q : ℕ) (l m bs : List ℕ) → q ≤ 512 * s → drop q l ≡ drop q m → bytesOf s a l bs ≡ bytesOf s a m bs
-bytes-drop s a q l m bs h e = bytes-same s a l m bs λ b p. ap (take a) (same-drop q (blockByte s a b) l m (omega arith) e)
+pub bytes-drop : (s : LogicalBlock) (a q : ℕ) (l m bs : List ℕ) → q ≤ 512 * s .0 → drop q l ≡ drop q m → bytesOf s a l bs ≡ bytesOf s a m bs
+bytes-drop s a q l m bs h e = bytes-same s a l m bs λ b p. ap (take a) (same-drop q (byteOf s a b) l m (omega arith) e)
 
 -- cut: the first n bytes of the fork are those of the blocks that are kept
-pub bytes-cut : (s a : ℕ) (l bs r : List ℕ) (n m : ℕ) → n ≤ m → n ≤ length (bytesOf s a l bs)
+pub bytes-cut : (s : LogicalBlock) (a : ℕ) (l bs r : List ℕ) (n m : ℕ) → n ≤ m → n ≤ length (bytesOf s a l bs)
     → take n (bytesOf s a l bs) ≡ take n (take m (bytesOf s a l (bs ++ r)))
 bytes-cut s a l bs r n m h k =
     sym (rw (take-take n m (bytesOf s a l (bs ++ r)) h, bytes-append s a l bs r, take-append-le n (bytesOf s a l bs) (bytesOf s a l r) k))

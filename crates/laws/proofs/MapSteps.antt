@@ -11,7 +11,7 @@ use lib.ListN.{length, take, drop, length-append, take-append-drop}
 use lib.Seq.{paste, length-paste, length-take-le, take-append-le}
 use Rattle.model.specs.Lists.{firstOr0, times, flat}
 use Rattle.model.specs.Bytes.{part, half, Bytes}
-use Rattle.model.specs.Facts.{N, A, S, blockByte}
+use Rattle.model.specs.Facts.{N, A, S}
 use Rattle.model.specs.Map.{mapEntry, chainBlocks, freeBlocks, putChain, putFree}
 use Rattle.model.specs.Directory.{blockCount, forkBlocks}
 use Rattle.model.specs.Check.{SoundFacts}
@@ -19,23 +19,24 @@ use Rattle.model.specs.Calls.{fewest, grown, needed, bytesOf, forkBytes, putCon
 use Rattle.model.specs.Bytes.{overwritten, Within}
 use Rattle.model.specs.declared.VolumeFacts.{VolumeFacts}
 use Rattle.model.specs.declared.ForkFacts.{ForkFacts}
+use Rattle.model.specs.declared.LogicalBlock.{LogicalBlock}
 use Rattle.model.proofs.Times.{times-append}
 use Rattle.laws.proofs.Entries.{Clear, clear}
 use Rattle.laws.proofs.Sound.{held, held-append, Each, each-left, each-right, Linked, used, Sound, changed}
 use Rattle.laws.proofs.Chains.{Fields, length-forkBlocks, fields-blocks}
 use Rattle.laws.proofs.Joins.{InMap, New, write-sound, cut-sound, delete-sound, lowest-free, part-used, one-in-map, one-once}
 use Rattle.laws.proofs.Joins.{length-putChain, length-putFree, putChain-drop, putFree-drop, putChain-take, putFree-take, putChain-half, putFree-half}
-use Rattle.laws.proofs.Content.{Inside, bytes-drop, put-others, put-clear, put-half, length-put, content-own, length-bytes, bytes-append, overwritten-taken, bytes-cut, fewest-holds, fewest-least}
+use Rattle.laws.proofs.Content.{byteOf, Inside, bytes-drop, put-others, put-clear, put-half, length-put, content-own, length-bytes, bytes-append, overwritten-taken, bytes-cut, fewest-holds, fewest-least}
 use Rattle.laws.proofs.MapChecks.{MapPasses, Fit, lists, Lists, free-length, to-lists, from-lists, fit-left, fit-right, reads, replaced, parted}
 use Rattle.laws.proofs.Alike.{Alike, alike-sound, alike-bytes, entries-frame, sound-frame}
 use Rattle.laws.proofs.Octets.{bytes-putChain, bytes-putFree, bytes-putContent}
 
 -- the allocation blocks lie behind the map, in the image
-pub record Area (s a n : ℕ) (l : List ℕ) : Type 0 where
+pub record Area (s : LogicalBlock) (a n : ℕ) (l : List ℕ) : Type 0 where
   pub few : n ≤ 640
   pub some : 0 < a
-  pub low : 2048 ≤ 512 * s
-  pub room : 512 * s + n * a ≤ length l
+  pub low : 2048 ≤ 512 * s .0
+  pub room : 512 * s .0 + n * a ≤ length l
 
 -- the fields of a fork of m bytes in these blocks
 abbrev pub forkWith : ℕ → ℕ → List ℕ → ForkFacts
@@ -57,24 +58,24 @@ sound-area f l h = record {
 
 -- the bytes before the map, those from its end to the blocks, and each half-byte that is neither in the blocks bs nor in their
 -- entries
-pub record Framed (s a : ℕ) (bs l m : List ℕ) : Type 0 where
+pub record Framed (s : LogicalBlock) (a : ℕ) (bs l m : List ℕ) : Type 0 where
   pub size : length m ≡ length l
   pub before : take 1088 m ≡ take 1088 l
-  pub between : part 2048 (512 * s - 2048) m ≡ part 2048 (512 * s - 2048) l
-  pub halves : (h : ℕ) → ((b : ℕ) → 1 ≤ times b bs → Within (blockByte s a b) a h → ⊥)
+  pub between : part 2048 (512 * s .0 - 2048) m ≡ part 2048 (512 * s .0 - 2048) l
+  pub halves : (h : ℕ) → ((b : ℕ) → 1 ≤ times b bs → Within (byteOf s a b) a h → ⊥)
       → ((b : ℕ) → 1 ≤ times b bs → 2176 + 3 * (b - 2) ≤ h → h < 2179 + 3 * (b - 2) → ⊥) → half m h ≡ half l h
 
 clear-entry : (bs : List ℕ) (h : ℕ) → ((b : ℕ) → 1 ≤ times b bs → 2176 + 3 * (b - 2) ≤ h → h < 2179 + 3 * (b - 2) → ⊥)
     → (b : ℕ) → 1 ≤ times b bs → Clear (2176 + 3 * (b - 2)) (2179 + 3 * (b - 2)) h
 clear-entry bs h c b p = clear (2176 + 3 * (b - 2)) (2179 + 3 * (b - 2)) h (c b p)
 
-clear-block : (s a : ℕ) (bs : List ℕ) (h : ℕ) → ((b : ℕ) → 1 ≤ times b bs → Within (blockByte s a b) a h → ⊥)
-    → (b : ℕ) → 1 ≤ times b bs → Clear (2 * blockByte s a b) (2 * blockByte s a b + 2 * a) h
-clear-block s a bs h c b p = clear (2 * blockByte s a b) (2 * blockByte s a b + 2 * a) h (λ x y. c b p (x, y))
+clear-block : (s : LogicalBlock) (a : ℕ) (bs : List ℕ) (h : ℕ) → ((b : ℕ) → 1 ≤ times b bs → Within (byteOf s a b) a h → ⊥)
+    → (b : ℕ) → 1 ≤ times b bs → Clear (2 * byteOf s a b) (2 * byteOf s a b + 2 * a) h
+clear-block s a bs h c b p = clear (2 * byteOf s a b) (2 * byteOf s a b + 2 * a) h (λ x y. c b p (x, y))
 
 -- ---- the steps on lists of blocks
 
-module _ (s a n : ℕ) (l : List ℕ) (ar : Area s a n l) where
+module _ (s : LogicalBlock) (a n : ℕ) (l : List ℕ) (ar : Area s a n l) where
   -- blocks lie in the image
   inside : (m bs : List ℕ) → length m ≡ length l → InMap n bs → Inside s a m bs
   inside m bs e w b p =
@@ -110,7 +111,7 @@ module _ (s a n : ℕ) (l : List ℕ) (ar : Area s a n l) where
         omega (arith, length-paste (bytesOf s a chained (bs ++ r)) o xs (length xs) (omega arith) (omega arith))
 
     -- what lies clear of the blocks, and not in the map, stays
-    write-clear : (q j : ℕ) → ((b : ℕ) → 1 ≤ times b (bs ++ r) → (q + j ≤ blockByte s a b) ⊎ (blockByte s a b + a ≤ q)) → part q j stored ≡ part q j chained
+    write-clear : (q j : ℕ) → ((b : ℕ) → 1 ≤ times b (bs ++ r) → (q + j ≤ byteOf s a b) ⊎ (byteOf s a b + a ≤ q)) → part q j stored ≡ part q j chained
     unfolding putContent
     write-clear q j k = put-clear s a q j chained (bs ++ r) _ lies whole k
 
@@ -119,8 +120,8 @@ module _ (s a n : ℕ) (l : List ℕ) (ar : Area s a n l) where
     stored-frame = record {
       size = length-put s a chained (bs ++ r) _ lies whole ∙ length-putChain n (ar .few) l (bs ++ r);
       before = write-clear 0 1088 (λ b q. inl (omega arith)) ∙ putChain-take n (ar .few) l (bs ++ r);
-      between = write-clear 2048 (512 * s - 2048) (λ b q. inl (omega arith))
-          ∙ ap (take (512 * s - 2048)) (putChain-drop n (ar .few) l (bs ++ r) within);
+      between = write-clear 2048 (512 * s .0 - 2048) (λ b q. inl (omega arith))
+          ∙ ap (take (512 * s .0 - 2048)) (putChain-drop n (ar .few) l (bs ++ r) within);
       halves = λ h c d. put-half s a chained (bs ++ r) _ h lies whole (clear-block s a (bs ++ r) h c)
           ∙ putChain-half n (ar .few) l (bs ++ r) h (omega arith) within (clear-entry (bs ++ r) h d);
     }
@@ -171,7 +172,7 @@ module _ (s a n : ℕ) (l : List ℕ) (ar : Area s a n l) where
     freed-frame = record {
       size = length-putFree n (ar .few) (putChain l bs) r ∙ length-putChain n (ar .few) l bs;
       before = putFree-take n (ar .few) (putChain l bs) r ∙ putChain-take n (ar .few) l bs;
-      between = ap (take (512 * s - 2048)) freed-drop;
+      between = ap (take (512 * s .0 - 2048)) freed-drop;
       halves = λ h c d.
           putFree-half n (ar .few) (putChain l bs) r h (omega (arith, length-putChain n (ar .few) l bs)) wr
           (λ b q. clear-entry (bs ++ r) h d b (omega (arith, times-append b bs r)))
@@ -184,13 +185,13 @@ module _ (s a n : ℕ) (l : List ℕ) (ar : Area s a n l) where
 -- ---- what the forks read as
 
 -- a fork with these fields reads as the first bytes of its blocks
-reads-as : (s a n : ℕ) (l : List ℕ) (g : ForkFacts) (bs : List ℕ) → 0 < a → Linked (mapEntry l) n bs → Fields a g bs
+reads-as : (s : LogicalBlock) (a n : ℕ) (l : List ℕ) (g : ForkFacts) (bs : List ℕ) → 0 < a → Linked (mapEntry l) n bs → Fields a g bs
     → forkBytes s a l g ≡ take (g .logical) (bytesOf s a l bs)
 unfolding forkBytes
 reads-as s a n l g bs pos h f = ap (λ x. take (g .logical) (bytesOf s a l x)) (fields-blocks (mapEntry l) n a g bs pos h f)
 
 -- forks whose blocks keep their bytes read as before
-kept : (s a n : ℕ) (l m : List ℕ) (gs : List ForkFacts) (bss : List (List ℕ)) → 0 < a → Fit a gs bss → Each (Linked (mapEntry l) n) bss → Each (Linked (mapEntry m) n) bss
+kept : (s : LogicalBlock) (a n : ℕ) (l m : List ℕ) (gs : List ForkFacts) (bss : List (List ℕ)) → 0 < a → Fit a gs bss → Each (Linked (mapEntry l) n) bss → Each (Linked (mapEntry m) n) bss
     → ((os : List ℕ) → ((b : ℕ) → 1 ≤ times b os → 1 ≤ held b bss) → bytesOf s a m os ≡ bytesOf s a l os) → map (forkBytes s a m) gs ≡ map (forkBytes s a l) gs
 unfolding Fit Each held
 kept s a n l m [] [] pos f x y k = refl
@@ -202,14 +203,15 @@ kept s a n l m (g ∷ gs) (bs ∷ bss) pos f x y k =
     (kept s a n l m gs bss pos (f .1) (x .1) (y .1) (λ os c. k os (λ b q. omega (arith, c b q))))
 
 -- the image m passes with the forks now between p and t, and those of p and t have the bytes and the blocks that they have in l
-pub record Changed (s a n free : ℕ) (l m : List ℕ) (p now t : List ForkFacts) : Type 0 where
+pub record Changed (s : LogicalBlock) (a n free : ℕ) (l m : List ℕ) (p now t : List ForkFacts) : Type 0 where
   pub passes : MapPasses (mapEntry m) n a free (p ++ (now ++ t))
   pub bytesBefore : map (forkBytes s a m) p ≡ map (forkBytes s a l) p
   pub bytesBehind : map (forkBytes s a m) t ≡ map (forkBytes s a l) t
   pub blocksBefore : map (forkBlocks (mapEntry m) a) p ≡ map (forkBlocks (mapEntry l) a) p
   pub blocksBehind : map (forkBlocks (mapEntry m) a) t ≡ map (forkBlocks (mapEntry l) a) t
 
-around : (s a n free free′ : ℕ) (l l″ : List ℕ) (p m m′ t : List ForkFacts) (x : List (List ℕ)) → 0 < a → MapPasses (mapEntry l) n a free (p ++ (m ++ t))
+around : (s : LogicalBlock) (a n free free′ : ℕ) (l l″ : List ℕ) (p m m′ t : List ForkFacts) (x : List (List ℕ)) → 0 < a
+    → MapPasses (mapEntry l) n a free (p ++ (m ++ t))
     → Lists (mapEntry l″) n a free′ (p ++ (m′ ++ t)) (lists (mapEntry l) a p ++ (x ++ lists (mapEntry l) a t))
     → ((os : List ℕ) → ((b : ℕ) → 1 ≤ times b os → 1 ≤ held b (lists (mapEntry l) a p ++ lists (mapEntry l) a t)) → bytesOf s a l″ os ≡ bytesOf s a l os)
     → Changed s a n free′ l l″ p m′ t
@@ -246,7 +248,7 @@ newCount e a g o xs = needed a (sizeAfter g o xs) (length (forkBlocks e a g))
 abbrev pub blocksAfter : (ℕ → ℕ) → ℕ → ℕ → ForkFacts → ℕ → List ℕ → List ℕ
 blocksAfter e n a g o xs = forkBlocks e a g ++ take (newCount e a g o xs) (freeBlocks e n)
 
-abbrev pub afterWrite : ℕ → ℕ → ℕ → List ℕ → ForkFacts → ℕ → List ℕ → List ℕ
+abbrev pub afterWrite : LogicalBlock → ℕ → ℕ → List ℕ → ForkFacts → ℕ → List ℕ → List ℕ
 afterWrite s a n l g o xs = putContent s a (putChain l (blocksAfter (mapEntry l) n a g o xs)) (blocksAfter (mapEntry l) n a g o xs) o xs
 
 -- cut of the fork g to m bytes: the blocks that it keeps, those that become free, and the map then
@@ -271,7 +273,7 @@ blankFork = record { start = record { 0 = 0 }; logical = 0; physical = 0 }
 pub new-count : (e : ℕ → ℕ) (a : ℕ) (g : ForkFacts) (o : ℕ) (xs : List ℕ) → newCount e a g o xs ≡ needed a (sizeAfter g o xs) (blockCount a g)
 new-count e a g o xs = ap (needed a (sizeAfter g o xs)) (length-forkBlocks e a g)
 
-module _ (s a n free : ℕ) (l : List ℕ) (ar : Area s a n l) where
+module _ (s : LogicalBlock) (a n free : ℕ) (l : List ℕ) (ar : Area s a n l) where
   module _ (p t : List ForkFacts) (g : ForkFacts) (h : MapPasses (mapEntry l) n a free (p ++ (g ∷ t))) where
     abbrev old : List ℕ
     old = forkBlocks (mapEntry l) a g
@@ -542,7 +544,7 @@ module _ (s a n free : ℕ) (l : List ℕ) (ar : Area s a n l) where
       go p (g ∷ t) k = (length-forkBytes p t g k, go (p ++ (g ∷ [])) t (rw (append-assoc p (g ∷ []) t) k))
 
 -- an empty fork has no bytes and no blocks
-pub blank-bytes : (s a : ℕ) (l : List ℕ) → forkBytes s a l blankFork ≡ []
+pub blank-bytes : (s : LogicalBlock) (a : ℕ) (l : List ℕ) → forkBytes s a l blankFork ≡ []
 unfolding forkBytes
 blank-bytes s a l = refl
 

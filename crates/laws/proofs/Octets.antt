@@ -5,9 +5,10 @@ use native.Mathlib.Omega.{arith}
 use lib.ListN.{length, take, drop, set, take-append-drop}
 use lib.Seq.{sets, paste}
 use Rattle.model.specs.Bytes.{be16, be32, u16, u32, zeros, part, Bytes}
-use Rattle.model.specs.Facts.{blockByte}
 use Rattle.model.specs.Map.{setEntry, behind, putChain, putFree}
 use Rattle.model.specs.Calls.{bytesOf, putBlocks, putContent}
+use Rattle.model.specs.declared.LogicalBlock.{LogicalBlock}
+use Rattle.laws.proofs.Content.{byteOf}
 use Rattle.laws.proofs.Entries.{bytes-set, bytes-setEntry}
 use Rattle.laws.proofs.Sound.{Each, each-append, each-left, each-right}
 use Rattle.laws.proofs.Joins.{InMap, in-map-tail, behind-ok}
@@ -64,16 +65,16 @@ octets-paste l q c k h d =
     each-append (λ x. x < 256) (take q l ++ take k c) (drop (q + k) l)
     (each-append (λ x. x < 256) (take q l) (take k c) (octets-take q l h) (octets-take k c d)) (octets-drop (q + k) l h)
 
-octets-blocks : (s a : ℕ) (l bs : List ℕ) → Octets l → Octets (bytesOf s a l bs)
+octets-blocks : (s : LogicalBlock) (a : ℕ) (l bs : List ℕ) → Octets l → Octets (bytesOf s a l bs)
 unfolding bytesOf Each
 octets-blocks s a l [] h = tt
 octets-blocks s a l (b ∷ bs) h =
-    each-append (λ x. x < 256) (part (blockByte s a b) a l) (bytesOf s a l bs) (octets-take a (drop (blockByte s a b) l) (octets-drop (blockByte s a b) l h)) (octets-blocks s a l bs h)
+    each-append (λ x. x < 256) (part (byteOf s a b) a l) (bytesOf s a l bs) (octets-take a (drop (byteOf s a b) l) (octets-drop (byteOf s a b) l h)) (octets-blocks s a l bs h)
 
-octets-put : (s a : ℕ) (l bs c : List ℕ) → Octets l → Octets c → Octets (putBlocks s a l bs c)
+octets-put : (s : LogicalBlock) (a : ℕ) (l bs c : List ℕ) → Octets l → Octets c → Octets (putBlocks s a l bs c)
 unfolding putBlocks
 octets-put s a l [] c h d = h
-octets-put s a l (b ∷ bs) c h d = octets-put s a (paste l (blockByte s a b) c a) bs (drop a c) (octets-paste l (blockByte s a b) c a h d) (octets-drop a c d)
+octets-put s a l (b ∷ bs) c h d = octets-put s a (paste l (byteOf s a b) c a) bs (drop a c) (octets-paste l (byteOf s a b) c a h d) (octets-drop a c d)
 
 octets-putChain : (n : ℕ) → n ≤ 640 → (l bs : List ℕ) → InMap n bs → Octets l → Octets (putChain l bs)
 unfolding putChain
@@ -93,7 +94,7 @@ bytes-putChain n small l bs w h = bytes (putChain l bs) (octets-putChain n small
 pub bytes-putFree : (l bs : List ℕ) → Bytes l → Bytes (putFree l bs)
 bytes-putFree l bs h = bytes (putFree l bs) (octets-putFree l bs (octets l h))
 
-pub bytes-putContent : (s a : ℕ) (l bs : List ℕ) (o : ℕ) (xs : List ℕ) → Bytes l → Bytes xs → Bytes (putContent s a l bs o xs)
+pub bytes-putContent : (s : LogicalBlock) (a : ℕ) (l bs : List ℕ) (o : ℕ) (xs : List ℕ) → Bytes l → Bytes xs → Bytes (putContent s a l bs o xs)
 unfolding putContent
 bytes-putContent s a l bs o xs h d =
     let i = octets l h in

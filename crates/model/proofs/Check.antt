@@ -38,8 +38,8 @@ pub record Layout (f : VolumeFacts) (blocks : ℕ) : Type 0 where
   pub dirSome : 1 ≤ dirLength f
   pub dirMost : dirLength f ≤ 256
   pub dirBehind : 4 ≤ dirStart f
-  pub dirBefore : dirStart f + dirLength f ≤ S f
-  pub backup : S f + N f * A f / 512 ≤ blocks - 2
+  pub dirBefore : dirStart f + dirLength f ≤ S f .0
+  pub backup : S f .0 + N f * A f / 512 ≤ blocks - 2
 
 module _ (f : VolumeFacts) (blocks : ℕ) where
   pub layout : fires3 f blocks ≡ false → Layout f blocks
@@ -53,8 +53,8 @@ module _ (f : VolumeFacts) (blocks : ℕ) where
       let i = or-false (ltb (dirLength f) 1) _ (h .1) in
       let j = or-false (ltb 256 (dirLength f)) _ (i .1) in
       let k = or-false (ltb (dirStart f) 4) _ (j .1) in
-      let l = or-false (ltb (S f) (dirStart f + dirLength f)) _ (k .1) in
-      let m = or-false (ltb (blocks - 2) (S f + N f * A f / 512)) _ (l .1) in
+      let l = or-false (ltb (S f .0) (dirStart f + dirLength f)) _ (k .1) in
+      let m = or-false (ltb (blocks - 2) (S f .0 + N f * A f / 512)) _ (l .1) in
       record {
         multiple = eqb-true (A f % 512) 0 (not-false _ (c .0));
         large = ltb-false (A f) 512 (d .0);
@@ -64,8 +64,8 @@ module _ (f : VolumeFacts) (blocks : ℕ) where
         dirSome = ltb-false (dirLength f) 1 (i .0);
         dirMost = ltb-false 256 (dirLength f) (j .0);
         dirBehind = ltb-false (dirStart f) 4 (k .0);
-        dirBefore = ltb-false (S f) (dirStart f + dirLength f) (l .0);
-        backup = ltb-false (blocks - 2) (S f + N f * A f / 512) (m .0);
+        dirBefore = ltb-false (S f .0) (dirStart f + dirLength f) (l .0);
+        backup = ltb-false (blocks - 2) (S f .0 + N f * A f / 512) (m .0);
       }
 
   -- where all that holds, the next file number is left
@@ -81,8 +81,8 @@ module _ (f : VolumeFacts) (blocks : ℕ) where
         le-ltb (dirLength f) 1 (s .dirSome),
         le-ltb 256 (dirLength f) (s .dirMost),
         le-ltb (dirStart f) 4 (s .dirBehind),
-        le-ltb (S f) (dirStart f + dirLength f) (s .dirBefore),
-        le-ltb (blocks - 2) (S f + N f * A f / 512) (s .backup),
+        le-ltb (S f .0) (dirStart f + dirLength f) (s .dirBefore),
+        le-ltb (blocks - 2) (S f .0 + N f * A f / 512) (s .backup),
       )
 
 module _ (f : VolumeFacts) (size : ℕ) where

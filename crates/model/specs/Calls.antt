@@ -16,6 +16,7 @@ use Rattle.model.specs.declared.VolumeFacts.{VolumeFacts}
 use Rattle.model.specs.declared.DirectoryEntry.{DirectoryEntry}
 use Rattle.model.specs.declared.ForkFacts.{ForkFacts}
 use Rattle.model.specs.declared.AllocationBlock.{AllocationBlock}
+use Rattle.model.specs.declared.LogicalBlock.{LogicalBlock}
 use Rattle.model.specs.declared.Fork.{Fork}
 use Rattle.model.specs.declared.Fork.the-variants.{Data, Resource}
 
@@ -98,22 +99,24 @@ knownIn image name fork =
 
 -- ---- Fork bytes
 
+-- s is S, a is A, and the blocks are plain numbers as the map has them: which are a block's, `runs` says.
+
 -- the bytes of the blocks, one block after the other
-unfoldable pub bytesOf : ℕ → ℕ → List ℕ → List ℕ → List ℕ
+unfoldable pub bytesOf : LogicalBlock → ℕ → List ℕ → List ℕ → List ℕ
 bytesOf s a image [] = []
-bytesOf s a image (b ∷ bs) = part (blockByte s a b) a image ++ bytesOf s a image bs
+bytesOf s a image (b ∷ bs) = part (blockByte s a (record { 0 = b })) a image ++ bytesOf s a image bs
 
 -- a fork's bytes: as many of its blocks' as its logical length
-unfoldable pub forkBytes : ℕ → ℕ → List ℕ → ForkFacts → List ℕ
+unfoldable pub forkBytes : LogicalBlock → ℕ → List ℕ → ForkFacts → List ℕ
 forkBytes s a image g = take (g .logical) (bytesOf s a image (forkBlocks (mapEntry image) a g))
 
 -- the image with c for the bytes of the blocks
-unfoldable pub putBlocks : ℕ → ℕ → List ℕ → List ℕ → List ℕ → List ℕ
+unfoldable pub putBlocks : LogicalBlock → ℕ → List ℕ → List ℕ → List ℕ → List ℕ
 putBlocks s a image [] c = image
-putBlocks s a image (b ∷ bs) c = putBlocks s a (paste image (blockByte s a b) c a) bs (drop a c)
+putBlocks s a image (b ∷ bs) c = putBlocks s a (paste image (blockByte s a (record { 0 = b })) c a) bs (drop a c)
 
 -- the image with xs from place o of the blocks' bytes on
-unfoldable pub putContent : ℕ → ℕ → List ℕ → List ℕ → ℕ → List ℕ → List ℕ
+unfoldable pub putContent : LogicalBlock → ℕ → List ℕ → List ℕ → ℕ → List ℕ → List ℕ
 putContent s a image bs o xs = putBlocks s a image bs (paste (bytesOf s a image bs) o xs (length xs))
 
 -- Read at offset o copies the smaller of the buffer's length and logical length − o, and gives that count.

@@ -6,6 +6,8 @@ use lib.ListN.{length, take, drop}
 use lib.Dec.{eqb}
 use Rattle.model.specs.Bytes.{byte, be16, be32, zeros, part}
 use Rattle.model.specs.declared.VolumeFacts.{VolumeFacts}
+use Rattle.model.specs.declared.LogicalBlock.{LogicalBlock}
+use Rattle.model.specs.declared.AllocationBlock.{AllocationBlock}
 
 -- The volume information: 64 bytes.
 unfoldable pub factsIn : List ℕ → VolumeFacts
@@ -47,8 +49,8 @@ abbrev pub A : VolumeFacts → ℕ
 A f = f .«block_size»
 
 -- S, logical block where allocation blocks start
-abbrev pub S : VolumeFacts → ℕ
-S f = f .«allocation_start» .0
+abbrev pub S : VolumeFacts → LogicalBlock
+S f = f .«allocation_start»
 
 abbrev pub nextNumber : VolumeFacts → ℕ
 nextNumber f = f .«next_number»
@@ -65,8 +67,8 @@ abbrev pub blocksIn : List ℕ → ℕ
 blocksIn image = length image / 512
 
 -- Block b starts at byte 512·S + (b−2)·A.
-abbrev pub blockByte : ℕ → ℕ → ℕ → ℕ
-blockByte s a b = 512 * s + (b - 2) * a
+abbrev pub blockByte : LogicalBlock → ℕ → AllocationBlock → ℕ
+blockByte s a b = 512 * s .0 + (b .0 - 2) * a
 
 -- the facts with this number of files, this next file number and these free blocks
 unfoldable pub withCounts : VolumeFacts → ℕ → ℕ → ℕ → VolumeFacts

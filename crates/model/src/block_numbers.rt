@@ -9,7 +9,7 @@ impl AllocationBlock {
     // The logical block at which this allocation block starts: block b starts at byte 512·S + (b−2)·A.
     pub fn logical(self, start: LogicalBlock, size: u32) -> LogicalBlock
         requires { ⌜ (2 ≤ self .0) × (self .0 ≤ 641) × (size ≤ 32768) × (size % 512 ≡ 0) × (start .0 < 65536) ⌝ }
-        ensures { λ r. ⌜ 512 * r .0 ≡ blockByte (start .0) size (self .0) ⌝ }
+        ensures { λ r. ⌜ 512 * r .0 ≡ blockByte start size self ⌝ }
     {
         let past = (self.0 - 2) as u32;
         let blocks = past * (size / 512);

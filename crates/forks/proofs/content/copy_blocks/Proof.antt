@@ -18,7 +18,7 @@ use Rattle.forks.proofs.content.copy_blocks.Tie as tie
 
 abbrev Inv-loop : tie.InvT-loop
 Inv-loop image start size offset count buffer₀ a b₀ within₀ done₀ buffer b within done =
-    Midway image (start .0) size count (b₀ .0) within₀ buffer₀ (b .0) within done buffer
+    Midway image start size count (b₀ .0) within₀ buffer₀ (b .0) within done buffer
 
 abbrev μ-loop : tie.MeasureT-loop
 μ-loop image start size offset count buffer₀ a b₀ within₀ done₀ buffer b within done = count - done
@@ -44,12 +44,12 @@ div-block-at c = size-positive (c .before .before)
 cast-block-at : tie.Need-cast-block-at Inv-loop μ-loop
 cast-block-at c =
     let a = c .before .before .args in
-    place-fits _ (place-small (now (a .image)) (a .start .0) (a .size) (a .g) (c .before .before .pre .0) (a .offset) (before-end (c .before .before)))
+    place-fits _ (place-small (now (a .image)) (a .start) (a .size) (a .g) (c .before .before .pre .0) (a .offset) (before-end (c .before .before)))
 
 block-at-requires : tie.Need-block-at-requires Inv-loop μ-loop
 block-at-requires c κs =
     let a = c .before .before .args in
-    (has-place (now (a .image)) (a .start .0) (a .size) (a .g) (c .before .before .pre .0) (a .offset) (before-end (c .before .before)), image-long (c .before .before))
+    (has-place (now (a .image)) (a .start) (a .size) (a .g) (c .before .before .pre .0) (a .offset) (before-end (c .before .before)), image-long (c .before .before))
 
 rem-within : tie.Need-rem-within Inv-loop μ-loop
 rem-within c = size-positive (c .before .before .before)
@@ -58,7 +58,7 @@ loop-holds : tie.Need-loop-holds Inv-loop μ-loop
 loop-holds c =
     let f = c .before .before .before in
     let a = f .args in
-    midway-first (now (a .image)) (a .start .0) (a .size) (a .count) (c .block-at .result .0) (a .offset % a .size) (a .buffer .now)
+    midway-first (now (a .image)) (a .start) (a .size) (a .count) (c .block-at .result .0) (a .offset % a .size) (a .buffer .now)
     (f .pre .1) (mod-lt (a .offset) (size-positive f))
 
 -- ---- in the loop
@@ -69,35 +69,35 @@ entry c = c .before .before .before .before
 
 -- the bytes that are due, all of them
 abbrev due : tie.At-loop Inv-loop μ-loop → List ℕ
-due c = let a = entry c .args in bytesFrom (now (a .image)) (a .start .0) (a .size) (a .g) (a .offset)
+due c = let a = entry c .args in bytesFrom (now (a .image)) (a .start) (a .size) (a .g) (a .offset)
 
 enough : (c : tie.At-loop Inv-loop μ-loop) → entry c .args .count ≤ length (due c)
 enough c =
     let f = entry c in
     let a = f .args in
-    fork-enough (now (a .image)) (a .start .0) (a .size) (a .g) (f .pre .0) (a .offset) (a .count) (f .pre .2)
+    fork-enough (now (a .image)) (a .start) (a .size) (a .g) (f .pre .0) (a .offset) (a .count) (f .pre .2)
 
 begins : (c : tie.At-loop Inv-loop μ-loop) → let a = entry c .args in
-    Onward (now (a .image)) (a .start .0) (a .size) (due c) (c .before .block-at .result .0) (a .offset % a .size)
+    Onward (now (a .image)) (a .start) (a .size) (due c) (c .before .block-at .result .0) (a .offset % a .size)
 begins c =
     let f = entry c in
     let a = f .args in
-    fork-onward (now (a .image)) (a .start .0) (a .size) (a .g) (f .pre .0) (a .offset) (before-end f) (c .before .block-at .result .0) (c .before .block-at .ensures)
+    fork-onward (now (a .image)) (a .start) (a .size) (a .g) (f .pre .0) (a .offset) (before-end f) (c .before .block-at .result .0) (c .before .block-at .ensures)
 
 goes-on : (c : tie.At-loop Inv-loop μ-loop) → let a = entry c .args in
-    Onward (now (a .image)) (a .start .0) (a .size) (drop (c .loop .done) (due c)) (c .loop .b .0) (c .loop .within)
+    Onward (now (a .image)) (a .start) (a .size) (drop (c .loop .done) (due c)) (c .loop .b .0) (c .loop .within)
 goes-on c = c .loop .inv .onward (due c) (begins c) (enough c)
 
 block : (c : tie.At-loop Inv-loop μ-loop) → (2 ≤ c .loop .b .0) × (c .loop .b .0 ≤ 641)
 block c =
     let a = entry c .args in
-    onward-block (now (a .image)) (a .start .0) (a .size) (drop (c .loop .done) (due c)) (c .loop .b .0) (c .loop .within) (goes-on c)
+    onward-block (now (a .image)) (a .start) (a .size) (drop (c .loop .done) (due c)) (c .loop .b .0) (c .loop .within) (goes-on c)
 
 lies : (c : tie.At-loop Inv-loop μ-loop) → let a = entry c .args in
-    blockByte (a .start .0) (a .size) (c .loop .b .0) + a .size ≤ length (now (a .image))
+    blockByte (a .start) (a .size) (c .loop .b) + a .size ≤ length (now (a .image))
 lies c =
     let a = entry c .args in
-    onward-lies (now (a .image)) (a .start .0) (a .size) (drop (c .loop .done) (due c)) (c .loop .b .0) (c .loop .within) (goes-on c)
+    onward-lies (now (a .image)) (a .start) (a .size) (drop (c .loop .done) (due c)) (c .loop .b .0) (c .loop .within) (goes-on c)
 
 sub-smaller : tie.Need-sub-smaller Inv-loop μ-loop
 sub-smaller c = le-of-lt (c .loop .inv .here)
@@ -119,7 +119,7 @@ byte-requires c κs = tt
 
 -- where the bytes of this turn stand, and how many they are
 from-block : (c : tie.After-byte Inv-loop μ-loop) → let l = c .before .before .before in
-    c .byte .result ≡ blockByte (entry l .args .start .0) (entry l .args .size) (l .loop .b .0)
+    c .byte .result ≡ blockByte (entry l .args .start) (entry l .args .size) (l .loop .b)
 from-block c = c .byte .ensures ∙ c .before .logical .ensures
 
 abbrev number : tie.After-byte Inv-loop μ-loop → ℕ
@@ -153,7 +153,7 @@ add-done c =
 
 stored : (c : tie.After-copy-part Inv-loop μ-loop) → let y = c .before .before in let l = y .before .before .before in let a = entry l .args in
     c .copy-part .last .1 .1 .0
-    ≡ paste (l .loop .buffer) (l .loop .done) (drop (blockByte (a .start .0) (a .size) (l .loop .b .0) + l .loop .within) (now (a .image))) (number y)
+    ≡ paste (l .loop .buffer) (l .loop .done) (drop (blockByte (a .start) (a .size) (l .loop .b) + l .loop .within) (now (a .image))) (number y)
 stored c =
     let y = c .before .before in
     let l = y .before .before .before in
@@ -173,10 +173,10 @@ returns c =
     let xs = due l in
     let end : l .loop .done + number y ≡ a .count = all-done _ _ (in-count y) (c .if1 .taken) in
     stored k
-    ∙ midway-copied (now (a .image)) (a .start .0) (a .size) (a .count) (l .before .block-at .result .0) (a .offset % a .size) (a .buffer .now)
+    ∙ midway-copied (now (a .image)) (a .start) (a .size) (a .count) (l .before .block-at .result .0) (a .offset % a .size) (a .buffer .now)
     (l .loop .b .0) (l .loop .within) (l .loop .done) (l .loop .buffer) (l .loop .inv) (f .pre .3) (number y) (in-block y) (in-count y) xs (begins l) (enough l)
     ∙ ap (λ i. take i xs ++ drop i (a .buffer .now)) end
-    ∙ ap (λ x. x ++ drop (a .count) (a .buffer .now)) (fork-part (now (a .image)) (a .start .0) (a .size) (a .g) (f .pre .0) (a .offset) (a .count) (f .pre .2))
+    ∙ ap (λ x. x ++ drop (a .count) (a .buffer .now)) (fork-part (now (a .image)) (a .start) (a .size) (a .g) (f .pre .0) (a .offset) (a .count) (f .pre .2))
 
 load-requires : tie.Need-load-requires Inv-loop μ-loop
 load-requires c κs =
@@ -199,7 +199,7 @@ loop-again c =
     let a = f .args in
     let end : l .loop .within + number y ≡ a .size =
     turn-whole _ _ _ _ _ (y .before .before .smaller .ensures) (l .loop .inv .here) (l .loop .inv .more) (c .before .if1 .left) in
-    midway-next (now (a .image)) (a .start .0) (a .size) (a .count) (l .before .block-at .result .0) (a .offset % a .size) (a .buffer .now)
+    midway-next (now (a .image)) (a .start) (a .size) (a .count) (l .before .block-at .result .0) (a .offset % a .size) (a .buffer .now)
     (l .loop .b .0) (l .loop .within) (l .loop .done) (l .loop .buffer) (l .loop .inv) (f .pre .3) (number y) (c .load .result) (k .copy-part .last .1 .1 .0) end
     (c .before .if1 .left) (k .copy-part .kept .1 .1 .0) (stored k) (c .load .ensures .0)
 

@@ -27,7 +27,7 @@ returns c =
     let f = c .before .before .before .before .before in
     let a = f .args in
     let none = sym (c .if1 .taken) ∙ count-is (c .before) in
-    (none, copied-fork (now (a .image)) (a .start .0) (a .size) (a .g) (f .pre .0) (a .offset) 0 (now (a .buffer)) none)
+    (none, copied-fork (now (a .image)) (a .start) (a .size) (a .g) (f .pre .0) (a .offset) 0 (now (a .buffer)) none)
 
 copy-blocks-requires : tie.Need-copy-blocks-requires
 copy-blocks-requires c κs = search needs
@@ -41,7 +41,7 @@ returns-2 c =
     let f = k .before .before .before .before in
     let a = f .args in
     let n = k .smaller .result in
-    (count-is k, c .before .before .copy-blocks .ensures ∙ copied-fork (now (a .image)) (a .start .0) (a .size) (a .g) (f .pre .0) (a .offset) n (now (a .buffer)) (count-is k))
+    (count-is k, c .before .before .copy-blocks .ensures ∙ copied-fork (now (a .image)) (a .start) (a .size) (a .g) (f .pre .0) (a .offset) n (now (a .buffer)) (count-is k))
 
 pub copy-fork-spec : {M : Type 1} → statement M
 copy-fork-spec =

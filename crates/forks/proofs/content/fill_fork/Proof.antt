@@ -22,7 +22,7 @@ use Rattle.forks.proofs.content.fill_fork.Tie as tie
 
 abbrev Inv-loop : tie.InvT-loop
 Inv-loop image₀ start size blocks offset bytes count a block₀ at₀ stored₀ image block at stored =
-    Partway image₀ (start .0) size bytes (block₀ .0) at₀ (block .0) at stored image
+    Partway image₀ start size bytes (block₀ .0) at₀ (block .0) at stored image
 
 abbrev μ-loop : tie.MeasureT-loop
 μ-loop image₀ start size blocks offset bytes count a block₀ at₀ stored₀ image block at stored = count - stored
@@ -53,7 +53,7 @@ returns : tie.Need-returns Inv-loop μ-loop
 returns c =
     let f = c .before .before .before in
     let a = f .args in
-    fill-none (now (a .image)) (a .start .0) (a .size) (a .first .0) (a .blocks) (f .pre .0) (a .offset) (now (a .bytes)) (f .pre .1) (c .if1 .taken)
+    fill-none (now (a .image)) (a .start) (a .size) (a .first .0) (a .blocks) (f .pre .0) (a .offset) (now (a .bytes)) (f .pre .1) (c .if1 .taken)
 
 -- ---- before the loop
 
@@ -67,13 +67,13 @@ cast-block-at : tie.Need-cast-block-at Inv-loop μ-loop
 cast-block-at c =
     let f = c .before .before .before .before in
     let a = f .args in
-    place-fits _ (fill-small (now (a .image)) (a .start .0) (a .size) (a .first .0) (a .blocks) (f .pre .0) (a .offset) (now (a .bytes)) (f .pre .1) (some (c .before)))
+    place-fits _ (fill-small (now (a .image)) (a .start) (a .size) (a .first .0) (a .blocks) (f .pre .0) (a .offset) (now (a .bytes)) (f .pre .1) (some (c .before)))
 
 block-at-requires : tie.Need-block-at-requires Inv-loop μ-loop
 block-at-requires c κs =
     let f = c .before .before .before .before in
     let a = f .args in (
-      fill-place (now (a .image)) (a .start .0) (a .size) (a .first .0) (a .blocks) (f .pre .0) (a .offset) (now (a .bytes)) (f .pre .1) (some (c .before)),
+      fill-place (now (a .image)) (a .start) (a .size) (a .first .0) (a .blocks) (f .pre .0) (a .offset) (now (a .bytes)) (f .pre .1) (some (c .before)),
       image-long f,
     )
 
@@ -84,7 +84,7 @@ loop-holds : tie.Need-loop-holds Inv-loop μ-loop
 loop-holds c =
     let f = c .before .before .before .before .before in
     let a = f .args in
-    partway-first (now (a .image)) (a .start .0) (a .size) (now (a .bytes)) (c .block-at .result .0) (a .offset % a .size) (some (c .before .before)) (mod-lt (a .offset) (size-positive f))
+    partway-first (now (a .image)) (a .start) (a .size) (now (a .bytes)) (c .block-at .result .0) (a .offset % a .size) (some (c .before .before)) (mod-lt (a .offset) (size-positive f))
 
 -- ---- in the loop
 
@@ -92,30 +92,30 @@ loop-holds c =
 abbrev filled : tie.At-loop Inv-loop μ-loop → List ℕ
 filled c =
     let a = c .before .before .before .before .before .before .args in
-    putContent (a .start .0) (a .size) (now (a .image)) (chainBlocks (mapEntry (now (a .image))) (a .blocks) (a .first .0)) (a .offset) (now (a .bytes))
+    putContent (a .start) (a .size) (now (a .image)) (chainBlocks (mapEntry (now (a .image))) (a .blocks) (a .first .0)) (a .offset) (now (a .bytes))
 
 begins : (c : tie.At-loop Inv-loop μ-loop) → let a = c .before .before .before .before .before .before .args in
-    Due (now (a .image)) (a .start .0) (a .size) (now (a .image)) (c .before .block-at .result .0) (a .offset % a .size) (now (a .bytes)) (filled c)
+    Due (now (a .image)) (a .start) (a .size) (now (a .image)) (c .before .block-at .result .0) (a .offset % a .size) (now (a .bytes)) (filled c)
 begins c =
     let f = c .before .before .before .before .before .before in
     let a = f .args in
-    fill-due (now (a .image)) (a .start .0) (a .size) (a .first .0) (a .blocks) (f .pre .0) (a .offset) (now (a .bytes)) (f .pre .1) (some (c .before .before .before))
+    fill-due (now (a .image)) (a .start) (a .size) (a .first .0) (a .blocks) (f .pre .0) (a .offset) (now (a .bytes)) (f .pre .1) (some (c .before .before .before))
     (c .before .block-at .result .0) (c .before .block-at .ensures)
 
 goes-on : (c : tie.At-loop Inv-loop μ-loop) → let a = c .before .before .before .before .before .before .args in
-    Due (now (a .image)) (a .start .0) (a .size) (c .loop .image) (c .loop .block .0) (c .loop .at) (drop (c .loop .stored) (now (a .bytes))) (filled c)
+    Due (now (a .image)) (a .start) (a .size) (c .loop .image) (c .loop .block .0) (c .loop .at) (drop (c .loop .stored) (now (a .bytes))) (filled c)
 goes-on c = c .loop .inv .due (filled c) (begins c)
 
 numbered : (c : tie.At-loop Inv-loop μ-loop) → (2 ≤ c .loop .block .0) × (c .loop .block .0 ≤ 641)
 numbered c =
     let a = c .before .before .before .before .before .before .args in
-    due-block (now (a .image)) (a .start .0) (a .size) (c .loop .image) (c .loop .block .0) (c .loop .at) (drop (c .loop .stored) (now (a .bytes))) (filled c) (goes-on c)
+    due-block (now (a .image)) (a .start) (a .size) (c .loop .image) (c .loop .block .0) (c .loop .at) (drop (c .loop .stored) (now (a .bytes))) (filled c) (goes-on c)
 
 lies : (c : tie.At-loop Inv-loop μ-loop) → let a = c .before .before .before .before .before .before .args in
-    blockByte (a .start .0) (a .size) (c .loop .block .0) + a .size ≤ length (c .loop .image)
+    blockByte (a .start) (a .size) (c .loop .block) + a .size ≤ length (c .loop .image)
 lies c =
     let a = c .before .before .before .before .before .before .args in
-    due-lies (now (a .image)) (a .start .0) (a .size) (c .loop .image) (c .loop .block .0) (c .loop .at) (drop (c .loop .stored) (now (a .bytes))) (filled c) (goes-on c)
+    due-lies (now (a .image)) (a .start) (a .size) (c .loop .image) (c .loop .block .0) (c .loop .at) (drop (c .loop .stored) (now (a .bytes))) (filled c) (goes-on c)
 
 sub-smaller : tie.Need-sub-smaller Inv-loop μ-loop
 sub-smaller c = le-of-lt (c .loop .inv .here)
@@ -137,7 +137,7 @@ byte-requires c κs = tt
 
 -- where the bytes of this turn belong, and how many they are
 to-block : (c : tie.After-byte Inv-loop μ-loop) → let l = c .before .before .before in let a = l .before .before .before .before .before .before .args in
-    c .byte .result ≡ blockByte (a .start .0) (a .size) (l .loop .block .0)
+    c .byte .result ≡ blockByte (a .start) (a .size) (l .loop .block)
 to-block c = c .byte .ensures ∙ c .before .logical .ensures
 
 abbrev number : tie.After-byte Inv-loop μ-loop → ℕ
@@ -173,7 +173,7 @@ add-stored c =
 
 after : (c : tie.After-copy-part Inv-loop μ-loop) → let y = c .before .before in let l = y .before .before .before in let a = l .before .before .before .before .before .before .args in
     c .copy-part .last .1 .1 .0
-    ≡ paste (l .loop .image) (blockByte (a .start .0) (a .size) (l .loop .block .0) + l .loop .at) (drop (l .loop .stored) (now (a .bytes))) (number y)
+    ≡ paste (l .loop .image) (blockByte (a .start) (a .size) (l .loop .block) + l .loop .at) (drop (l .loop .stored) (now (a .bytes))) (number y)
 after c =
     let y = c .before .before in
     let l = y .before .before .before in
@@ -191,7 +191,7 @@ returns-2 c =
     let a = l .before .before .before .before .before .before .args in
     let end : l .loop .stored + number y ≡ length (now (a .bytes)) = all-done _ _ (in-count y) (c .if2 .taken) in
     after k
-    ∙ partway-last (now (a .image)) (a .start .0) (a .size) (now (a .bytes)) (l .before .block-at .result .0) (a .offset % a .size) (l .loop .block .0) (l .loop .at) (l .loop .stored)
+    ∙ partway-last (now (a .image)) (a .start) (a .size) (now (a .bytes)) (l .before .block-at .result .0) (a .offset % a .size) (l .loop .block .0) (l .loop .at) (l .loop .stored)
     (l .loop .image) (l .loop .inv) (number y) (in-block y) end (filled l) (begins l)
 
 load-requires : tie.Need-load-requires Inv-loop μ-loop
@@ -215,7 +215,7 @@ loop-again c =
     let a = l .before .before .before .before .before .before .args in
     let end : l .loop .at + number y ≡ a .size =
     turn-whole _ _ _ _ _ (y .before .before .smaller .ensures) (l .loop .inv .here) (l .loop .inv .more) (c .before .before .if2 .left) in
-    partway-next (now (a .image)) (a .start .0) (a .size) (now (a .bytes)) (l .before .block-at .result .0) (a .offset % a .size) (l .loop .block .0) (l .loop .at) (l .loop .stored)
+    partway-next (now (a .image)) (a .start) (a .size) (now (a .bytes)) (l .before .block-at .result .0) (a .offset % a .size) (l .loop .block .0) (l .loop .at) (l .loop .stored)
     (l .loop .image) (l .loop .inv) (number y) (c .load .result) (k .copy-part .last .1 .1 .0) end (c .before .before .if2 .left) (k .copy-part .kept .1 .1 .0) (after k) (c .load .ensures .0)
 
 pub fill-fork-spec : {M : Type 1} → statement M
