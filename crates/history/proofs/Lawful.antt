@@ -8,7 +8,7 @@ use lib.ListN.{length}
 use lib.Dec.{eqb, leb, ltb}
 use borrow.Author.Tests.{not-false, ltb-true, ltb-false, lt-ltb, le-ltb}
 use Rattle.model.specs.Bytes.{Bytes}
-use Rattle.model.specs.Check.{orElse, Accepted}
+use Rattle.model.specs.Check.{Accepted}
 use Rattle.model.specs.Calls.{Call, nameOf, forkGiven, Known, grown, needed, badName, refuses, refusal, change, only, reply, after, Fits}
 use Rattle.model.specs.Calls.{Answer, tellsFacts, tellsEntry, tellsBlock, tellsBytes}
 use Rattle.model.specs.Calls.Call.{check, entry, find, block, read, create, write, cut, delete}
@@ -16,28 +16,13 @@ use Rattle.history.specs.History.{File, History, noFile, heldOf, called,
 use Rattle.history.specs.History.{says, moves, asked, changes, RoomRule, Agrees}
 use Rattle.model.specs.declared.Fork.{Fork}
 use Rattle.laws.proofs.Reorder.{In, in-map, in-keep, in-append}
-use Rattle.laws.proofs.Refusals.{no-check, other, past, fires}
+use Rattle.laws.proofs.Refusals.{no-check, other, other-found, other-change, past, fires, withFull, create-fed, create-never}
 use Rattle.history.proofs.Answers.{rise-needed, only-told, check-says, entry-says, find-says, read-says}
 use Rattle.history.proofs.Joined.{Done, stays}
 use Rattle.history.proofs.Creates.{create-done}
 use Rattle.history.proofs.Writes.{write-done}
 use Rattle.history.proofs.Cuts.{cut-done}
 use Rattle.history.proofs.Deletes.{delete-done}
-
--- what is known, but for the room for an entry
-unfoldable pub withFull : Known → Bool → Known
-withFull k full = record {
-  locked = k .locked;
-  files = k .files;
-  exists = k .exists;
-  fileLocked = k .fileLocked;
-  logical = k .logical;
-  blocks = k .blocks;
-  size = k .size;
-  free = k .free;
-  next = k .next;
-  full = full;
-}
 
 pub record Lawful (call : Call) : Type 0 where
   -- a success has the number 0, and the history says so
@@ -136,30 +121,6 @@ alters call d fed room done keeps =
       keeps = keeps;
     }
 
--- a create needs to be told that it gives 18, and gives no 17
-create-fed : (name finder : List ℕ) (made changed : ℕ) (k : Known)
-    → refuses (create name finder made changed) k
-    ≡ refuses (create name finder made changed) (withFull k (eqb (refuses (create name finder made changed) k) 18))
-unfolding refuses withFull
-create-fed name finder made changed k = go (k .locked) (badName name) (k .exists) (eqb (k .next) 4294967295) (k .full)
-  where
-    number : (l b e n f : Bool) → ℕ
-    number l b e n f = orElse l 11 (orElse b 12 (orElse e 14 (orElse n 19 (orElse f 18 0))))
-
-    go : (l b e n f : Bool) → number l b e n f ≡ number l b e n (eqb (number l b e n f) 18)
-    go true b e n f = refl
-    go false true e n f = refl
-    go false false true n f = refl
-    go false false false true f = refl
-    go false false false false true = refl
-    go false false false false false = refl
-
-create-never : (name finder : List ℕ) (made changed : ℕ) (k : Known) → refuses (create name finder made changed) k ≡ 17 → ⊥
-unfolding refuses
-create-never name finder made changed k =
-    other (k .locked) 11 refl (other (badName name) 12 refl (other (k .exists) 14 refl
-    (other (eqb (k .next) 4294967295) 19 refl (other (k .full) 18 refl no-check))))
-
 -- a write gives 17 exactly where it needs more new blocks than are free
 write-room : (name : List ℕ) (fork : Fork) (offset : ℕ) (bytes : List ℕ) (changed : ℕ) (h : History) (full : Bool)
     → RoomRule h (write name fork offset bytes changed) (declines h full (write name fork offset bytes changed))
@@ -202,28 +163,20 @@ never : (call : Call) → ((k : Known) → refuses call k ≡ 17 → ⊥) → (h
 unfolding declines
 never call n h full = n (knownTo h full (nameOf call) (forkGiven call))
 
--- the tests that find, block and read share, and those that cut and delete share
-found : (name : List ℕ) (k : Known) {r : ℕ} → (r ≡ 17 → ⊥) → orElse (badName name) 12 (orElse (not (k .exists)) 13 r) ≡ 17 → ⊥
-found name k n = other (badName name) 12 refl (other (not (k .exists)) 13 refl n)
-
-unlocked : (name : List ℕ) (k : Known) {r : ℕ} → (r ≡ 17 → ⊥)
-    → orElse (k .locked) 11 (orElse (badName name) 12 (orElse (not (k .exists)) 13 (orElse (k .fileLocked) 15 r))) ≡ 17 → ⊥
-unlocked name k n = other (k .locked) 11 refl (found name k (other (k .fileLocked) 15 refl n))
-
 pub lawful : (call : Call) → Lawful call
 unfolding change moves reply says changes refuses withFull RoomRule nameOf toldBy only toldOnly tellsFacts tellsEntry tellsBlock tellsBytes
 lawful check = reads check refl (never check (λ k. no-check)) check-says
 lawful (entry place) =
     reads (entry place) refl (never (entry place) (λ k. other (leb (k .files) place) 13 refl no-check)) (entry-says place)
 lawful (find name) =
-    reads (find name) refl (never (find name) (λ k. found name k no-check)) (find-says name)
+    reads (find name) refl (never (find name) (λ k. other-found name k no-check)) (find-says name)
 lawful (block name fork place) =
     reads (block name fork place) refl
-    (never (block name fork place) (λ k. found name k (other (leb (k .blocks) place) 16 refl no-check)))
+    (never (block name fork place) (λ k. other-found name k (other (leb (k .blocks) place) 16 refl no-check)))
     (λ image h acc a z. only-told 0 [])
 lawful (read name fork offset buffer) =
     reads (read name fork offset buffer) refl
-    (never (read name fork offset buffer) (λ k. found name k (other (ltb (k .logical) offset) 16 refl no-check)))
+    (never (read name fork offset buffer) (λ k. other-found name k (other (ltb (k .logical) offset) 16 refl no-check)))
     (read-says name fork offset buffer)
 lawful (create name finder made changed) =
     alters (create name finder made changed) refl (create-fed name finder made changed)
@@ -237,11 +190,11 @@ lawful (write name fork offset bytes changed) =
     (λ h x n i. in-map noFile x _ (not-called name _ x n) (h .files) i)
 lawful (cut name fork size changed) =
     alters (cut name fork size changed) refl (λ k. refl)
-    (never (cut name fork size changed) (λ k. unlocked name k (other (ltb (k .logical) size) 16 refl no-check)))
+    (never (cut name fork size changed) (λ k. other-change name k (other (ltb (k .logical) size) 16 refl no-check)))
     (cut-done name fork size changed)
     (λ h x n i. in-map noFile x _ (not-called name _ x n) (h .files) i)
 lawful (delete name) =
     alters (delete name) refl (λ k. refl)
-    (never (delete name) (λ k. unlocked name k no-check))
+    (never (delete name) (λ k. other-change name k no-check))
     (delete-done name)
     (λ h x n i. in-keep noFile x (λ y. not (called name y)) (rw n) (h .files) i)

@@ -10,11 +10,11 @@ use Rattle.model.specs.Check.{Accepted}
 use Rattle.model.specs.Calls.{Call, nameOf, forkGiven, Known, refuses, knownIn, refusal, change, only, reply, lent, answer, Does}
 use Rattle.history.specs.History.{History, knownTo, declines, moves, step, says, tells, toldBy, toldOnly, asked, Agrees, reading}
 use Rattle.history.specs.History.{Told, Event, Run, isFull, RoomRule, InStep, Holds, EveryRun}
-use Rattle.laws.proofs.Refusals.{own-is, refused, done}
+use Rattle.laws.proofs.Refusals.{own-is, refused, done, withFull}
 use Rattle.history.proofs.Answers.{known-same, only-told}
 use Rattle.history.proofs.Reading.{starts}
 use Rattle.history.proofs.Joined.{stays}
-use Rattle.history.proofs.Lawful.{withFull, lawful}
+use Rattle.history.proofs.Lawful.{lawful}
 
 -- the number of an answer is the refusal, or 0
 number-is : (call : Call) (image : List ℕ) → answer call image .number ≡ refusal call image

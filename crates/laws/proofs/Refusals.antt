@@ -1,5 +1,5 @@
--- What a refusal and a success of a call mean: the image that each leaves, the number on an accepted image, and what the tests of a
--- changing call that is not refused have shown.
+-- What a refusal and a success of a call mean: the image that each leaves, the number on an accepted image, where it is 17 and how it
+-- depends on 18, and what the tests of a changing call that is not refused have shown.
 use Prim.Native.Nat.{ℕ, zero, suc, _+_, _≤_}
 use mathlib.Core.Path.{_≡_, refl, sym}
 use mathlib.Core.Bool.{Bool, true, false, not}
@@ -13,7 +13,7 @@ use Rattle.model.specs.Bytes.{byte, firstOf}
 use Rattle.model.specs.Facts.{factsOf, A, nextNumber, freeCount, isLocked}
 use Rattle.model.specs.Directory.{padded, directoryBlocks, directory, forkOf, flagsLock, blockCount, named}
 use Rattle.model.specs.Check.{orElse, verdict, Accepted}
-use Rattle.model.specs.Calls.{Call, nameOf, forkGiven, grown, needed, badName, refuses, entryNamed, hasRoom, knownIn, refusal, change, after}
+use Rattle.model.specs.Calls.{Call, Known, nameOf, forkGiven, grown, needed, badName, refuses, entryNamed, hasRoom, knownIn, refusal, change, after}
 use Rattle.model.specs.Calls.Call.{create, write, cut, delete}
 use Rattle.model.specs.declared.Fork.{Fork}
 use Rattle.model.proofs.Lists.{or-false}
@@ -45,6 +45,14 @@ pub other : (t : Bool) (k : ℕ) → eqb k 17 ≡ false → {r : ℕ} → (r ≡
 other true k n h e = eqb-false k 17 n e
 other false k n h e = h e
 
+-- the tests that find, block and read share, and those that write, cut and delete share
+pub other-found : (name : List ℕ) (k : Known) {r : ℕ} → (r ≡ 17 → ⊥) → orElse (badName name) 12 (orElse (not (k .exists)) 13 r) ≡ 17 → ⊥
+other-found name k n = other (badName name) 12 refl (other (not (k .exists)) 13 refl n)
+
+pub other-change : (name : List ℕ) (k : Known) {r : ℕ} → (r ≡ 17 → ⊥)
+    → orElse (k .locked) 11 (orElse (badName name) 12 (orElse (not (k .exists)) 13 (orElse (k .fileLocked) 15 r))) ≡ 17 → ⊥
+other-change name k n = other (k .locked) 11 refl (other-found name k (other (k .fileLocked) 15 refl n))
+
 -- a test before 17 that did not fire, and 17 itself
 pub past : (t : Bool) (k r : ℕ) → eqb k 17 ≡ false → orElse t k r ≡ 17 → (t ≡ false) × (r ≡ 17)
 past true k r n e = absurd (eqb-false k 17 n e)
@@ -53,6 +61,45 @@ past false k r n e = (refl, e)
 pub fires : (t : Bool) → orElse t 17 0 ≡ 17 → t ≡ true
 fires true e = refl
 fires false e = absurd (omega arith)
+
+-- what is known, but for the room for an entry
+unfoldable pub withFull : Known → Bool → Known
+withFull k full = record {
+  locked = k .locked;
+  files = k .files;
+  exists = k .exists;
+  fileLocked = k .fileLocked;
+  logical = k .logical;
+  blocks = k .blocks;
+  size = k .size;
+  free = k .free;
+  next = k .next;
+  full = full;
+}
+
+-- a create needs to be told that it gives 18, and gives no 17
+pub create-fed : (name finder : List ℕ) (made changed : ℕ) (k : Known)
+    → refuses (create name finder made changed) k
+    ≡ refuses (create name finder made changed) (withFull k (eqb (refuses (create name finder made changed) k) 18))
+unfolding refuses withFull
+create-fed name finder made changed k = go (k .locked) (badName name) (k .exists) (eqb (k .next) 4294967295) (k .full)
+  where
+    number : (l b e n f : Bool) → ℕ
+    number l b e n f = orElse l 11 (orElse b 12 (orElse e 14 (orElse n 19 (orElse f 18 0))))
+
+    go : (l b e n f : Bool) → number l b e n f ≡ number l b e n (eqb (number l b e n f) 18)
+    go true b e n f = refl
+    go false true e n f = refl
+    go false false true n f = refl
+    go false false false true f = refl
+    go false false false false true = refl
+    go false false false false false = refl
+
+pub create-never : (name finder : List ℕ) (made changed : ℕ) (k : Known) → refuses (create name finder made changed) k ≡ 17 → ⊥
+unfolding refuses
+create-never name finder made changed k =
+    other (k .locked) 11 refl (other (badName name) 12 refl (other (k .exists) 14 refl
+    (other (eqb (k .next) 4294967295) 19 refl (other (k .full) 18 refl no-check))))
 
 -- ---- what a call that is not refused has shown
 
