@@ -2,7 +2,7 @@
 ghost use Rattle.model.specs.Calls.{Call, Does};
 ghost use Rattle.files.specs.Lookup.{Readable};
 ghost use Rattle.files.specs.Told.{toldNumber};
-use directory::EntryAt;
+use directory::entry_size;
 use entries::Room;
 use files::Named;
 use files::first_entry;
@@ -35,8 +35,7 @@ pub fn serve_create(
             if f.next_number == VolumeFacts::LAST_NUMBER {
                 return 19;
             }
-            let size = EntryAt::TITLE_AT + name.len();
-            match entries::find_room(image, first_entry(f), size + size % 2) {
+            match entries::find_room(image, first_entry(f), entry_size(name.len())) {
                 Room::Nothing => 18,
                 Room::At(base, end) => {
                     crate::add::add_file(image, f, base, end, name, finder, created, changed);

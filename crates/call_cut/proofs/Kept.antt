@@ -87,11 +87,11 @@ module _ {f : VolumeFacts} {image : List ℕ} {e : EntryAt} {fork : Fork} {g : F
         (named-based image (k .readable .accepted) (k .name) (k .found .there .exists) fork size))
         at
 
-    pub cut-stands : (x : List ℕ) (keep : ℕ) → keep ≡ fewest size (A f)
-        → x ≡ putFree (putChain image (take keep (chainBlocks (mapEntry image) (g .physical / A f) (g .start .0)))) (drop keep (chainBlocks (mapEntry image) (g .physical / A f) (g .start .0)))
+    pub cut-stands : (x : List ℕ) (has keep : ℕ) → has ≡ g .physical / A f → keep ≡ fewest size (A f)
+        → x ≡ putFree (putChain image (take keep (chainBlocks (mapEntry image) has (g .start .0)))) (drop keep (chainBlocks (mapEntry image) has (g .start .0)))
         → Stands x e
     unfolding forkBlocks blockCount
-    cut-stands x keep k p = rw (p, k) (held-stands (h .held) (afterCut (A f) image g size) cut-based)
+    cut-stands x has keep c k p = rw (p, k, c) (held-stands (h .held) (afterCut (A f) image g size) cut-based)
 
     -- the stores, one behind the other
     leaves : (changed start : ℕ) (x y z : List ℕ) → start ≡ firstOr0 (take (fewest size (A f)) (forkBlocks (mapEntry image) (A f) g)) → x ≡ afterCut (A f) image g size
@@ -110,11 +110,11 @@ module _ {f : VolumeFacts} {image : List ℕ} {e : EntryAt} {fork : Fork} {g : F
         q ∙ (λ i. sets (sets (p i) (e .start + forkPlace fork) (u16 (s i) ++ (u32 size ++ u32 (kept i * A f)))) (e .start + 46) (u32 changed)) in
         r ∙ (λ i. withFree (freeCount f + gone i) ((stores ∙ held-stored t base cut-based fork (A f) size (take keep bs) changed) i))
 
-    pub cut-leaves : (changed keep start : ℕ) (x y z : List ℕ) → keep ≡ fewest size (A f)
-        → start ≡ firstOr0 (take keep (chainBlocks (mapEntry image) (g .physical / A f) (g .start .0)))
-        → x ≡ putFree (putChain image (take keep (chainBlocks (mapEntry image) (g .physical / A f) (g .start .0)))) (drop keep (chainBlocks (mapEntry image) (g .physical / A f) (g .start .0)))
+    pub cut-leaves : (changed has keep start : ℕ) (x y z : List ℕ) → has ≡ g .physical / A f → keep ≡ fewest size (A f)
+        → start ≡ firstOr0 (take keep (chainBlocks (mapEntry image) has (g .start .0)))
+        → x ≡ putFree (putChain image (take keep (chainBlocks (mapEntry image) has (g .start .0)))) (drop keep (chainBlocks (mapEntry image) has (g .start .0)))
         → y ≡ sets (sets x (e .start + forkPlace fork) (fields (record { start = record { 0 = start }; logical = size; physical = keep * A f }))) (e .start + 46) (u32 changed)
-        → z ≡ withFree (freeCount f + (g .physical / A f - keep)) y
+        → z ≡ withFree (freeCount f + (has - keep)) y
         → Shortened f image e fork g size changed z
     unfolding forkBlocks blockCount
-    cut-leaves changed keep start x y z k = rw k (leaves changed start x y z)
+    cut-leaves changed has keep start x y z c k = rw (k, c) (leaves changed start x y z)

@@ -4,6 +4,7 @@ ghost use Rattle.files.specs.Leaves.{Shortened};
 ghost use Rattle.files.specs.Lookup.{HeldFork};
 use directory::EntryAt;
 use entries::put_free;
+use forks::block_count;
 use forks::fewest_blocks;
 use model::AllocationBlock;
 use model::Fork;
@@ -26,7 +27,7 @@ pub fn shorten_fork(
     ensures { λ _. ⌜ Shortened f (now (image .entry)) e fork g size changed (now (image .exit)) ⌝ }
 {
     let a = f.block_size;
-    let has = (g.physical / a) as u16;
+    let has = block_count(g, a) as u16;
     let keep = fewest_blocks(size, a) as u16;
     let mut start = g.start.0;
     blockmap::shorten(image, f.allocation_blocks, g.start, has, keep);

@@ -149,13 +149,13 @@ module _ {f : VolumeFacts} {image : List ℕ} {e : EntryAt} (h : Held f image e)
       delete-lies = subst (λ (l : List ℕ). Lies l (e .start - e .start % 512) 1 e) (sym freed) (held-lies h (putFree image (content ++ resource)) delete-based)
 
       -- the stores, one behind the other
-      pub delete-leaves : (z w v : List ℕ) → Removes y (e .start - e .start % 512) e z → w ≡ withFiles (f .files - 1) z
-          → v ≡ withFree (freeCount f + d .physical / A f + r .physical / A f) w → Deleted f image e v
+      pub delete-leaves : (z w v : List ℕ) (free : ℕ) → Removes y (e .start - e .start % 512) e z → w ≡ withFiles (f .files - 1) z
+          → free ≡ freeCount f + d .physical / A f + r .physical / A f → v ≡ withFree free w → Deleted f image e v
       unfolding deleted blockCount
-      delete-leaves z w v m a b = λ k.
+      delete-leaves z w v free m a n b = λ k.
           let out : z ≡ withDirectory f (putFree image (content ++ resource)) (removed (k .name) (directoryBlocks f image)) =
           held-removed k (putFree image (content ++ resource)) delete-based z (subst (λ (l : List ℕ). Removes l (e .start - e .start % 512) e z) freed m) in
-          let count : freeCount f + d .physical / A f + r .physical / A f ≡ freeCount f + length (content ++ resource) =
+          let count : free ≡ freeCount f + length (content ++ resource) =
           omega (arith, length-append content resource, length-forkBlocks (mapEntry image) (A f) d, length-forkBlocks (mapEntry image) (A f) r) in
           b ∙ (λ i. withFree (count i) ((a ∙ ap (withFiles (f .files - 1)) out) i))
           ∙ (λ i. let bs = bothBlocks (mapEntry image) (A f) (p i) (q i) in

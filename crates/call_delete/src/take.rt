@@ -5,6 +5,7 @@ use directory::Cursor;
 use directory::EntryAt;
 use entries::put_files;
 use entries::put_free;
+use forks::block_count;
 use model::Fork;
 use model::VolumeFacts;
 
@@ -17,8 +18,8 @@ pub fn take_file(image: &mut [u8], f: VolumeFacts, e: EntryAt)
     let a = f.block_size;
     let data = directory::read_fork(image, e, Fork::Data);
     let resource = directory::read_fork(image, e, Fork::Resource);
-    let in_data = (data.physical / a) as u16;
-    let in_resource = (resource.physical / a) as u16;
+    let in_data = block_count(data, a) as u16;
+    let in_resource = block_count(resource, a) as u16;
     blockmap::free_chain(image, n, data.start, in_data);
     blockmap::free_chain(image, n, resource.start, in_resource);
     let base = e.start - e.start % Cursor::BLOCK;

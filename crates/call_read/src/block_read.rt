@@ -6,6 +6,7 @@ use files::BlockAnswer;
 use files::Named;
 use files::ReadAnswer;
 use files::lookup;
+use forks::block_count;
 use forks::copy_fork;
 use model::AllocationBlock;
 use model::Fork;
@@ -22,8 +23,7 @@ pub fn serve_block(image: &[u8], f: VolumeFacts, name: &[u8], fork: Fork, place:
         },
         Named::At(_, e) => {
             let g = directory::read_fork(image, e, fork);
-            let blocks = g.physical / f.block_size;
-            if blocks as u64 <= place {
+            if block_count(g, f.block_size) as u64 <= place {
                 return BlockAnswer {
                     number: 16,
                     block: AllocationBlock(0),

@@ -167,17 +167,18 @@ module _ {f : VolumeFacts} {image : List ℕ} {e : EntryAt} (h : Held f image e)
       grown-stands l p = rw p (held-stands h (grownBase f image g need o xs) based-grown)
 
       -- all that is stored is what the model says
-      pub grown-written : (l after left : List ℕ) (t size changed : ℕ) → l ≡ grownBase f image g need o xs → t ≡ firstOr0 (grownBlocks f image g need) → size ≡ max (g .logical) (o + length xs)
-          → after ≡ sets (sets l (e .start + forkPlace fork) (u16 t ++ (u32 size ++ u32 ((g .physical / A f + need) * A f)))) (e .start + 46) (u32 changed)
+      pub grown-written : (l after left : List ℕ) (t size count changed : ℕ) → l ≡ grownBase f image g need o xs → t ≡ firstOr0 (grownBlocks f image g need)
+          → size ≡ max (g .logical) (o + length xs) → count ≡ g .physical / A f + need
+          → after ≡ sets (sets l (e .start + forkPlace fork) (u16 t ++ (u32 size ++ u32 (count * A f)))) (e .start + 46) (u32 changed)
           → left ≡ withFree (freeCount f - need) after
           → left ≡ written f image (h .name) fork o xs changed g
       unfolding written newBlocks forkBlocks blockCount grown
-      grown-written l after left t size changed p s z a d =
+      grown-written l after left t size count changed p s z n a d =
           let all = grownBlocks f image g need in
           let base = grownBase f image g need o xs in
-          let b : sets (sets l (e .start + forkPlace fork) (u16 t ++ (u32 size ++ u32 ((g .physical / A f + need) * A f)))) (e .start + 46) (u32 changed)
+          let b : sets (sets l (e .start + forkPlace fork) (u16 t ++ (u32 size ++ u32 (count * A f)))) (e .start + 46) (u32 changed)
           ≡ sets (sets base (e .start + forkPlace fork) (fields (forkWith (A f) (max (g .logical) (o + length xs)) all))) (e .start + 46) (u32 changed)
-          = rw (p, s, z, length-grown) in
+          = rw (p, s, z, n, length-grown) in
           let full = (a ∙ b) ∙ held-stored h base based-grown fork (A f) (max (g .logical) (o + length xs)) all changed in
           d ∙ ap (withFree (freeCount f - need)) full
           ∙ ap (λ (k : ℕ). withFree (freeCount f - k) (withDirectory f (grownBase f image g k o xs)

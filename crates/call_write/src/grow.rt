@@ -8,6 +8,7 @@ ghost use Rattle.files.specs.Leaves.{Written};
 ghost use Rattle.files.specs.Lookup.{HeldFork};
 use directory::EntryAt;
 use entries::put_free;
+use forks::block_count;
 use forks::fill_fork;
 use forks::larger;
 use model::AllocationBlock;
@@ -32,7 +33,7 @@ pub fn grow_fork(
     ensures { λ _. ⌜ Written f (now (image .entry)) e fork g offset (now (bytes .entry)) changed (now (image .exit)) ⌝ }
 {
     let a = f.block_size;
-    let has = (g.physical / a) as u16;
+    let has = block_count(g, a) as u16;
     let start = blockmap::extend(image, f.allocation_blocks, g.start, has, need);
     let blocks = has + need;
     let first = start.0;

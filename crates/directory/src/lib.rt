@@ -9,6 +9,7 @@ pub use fields::number_of;
 pub use fields::read_entry;
 pub use fields::read_fork;
 pub use names::same_name;
+pub use places::entry_size;
 pub use search::entry_at;
 pub use search::locate;
 

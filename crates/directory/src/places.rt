@@ -1,5 +1,17 @@
-// Where the fields of a directory entry stand.
+// Where the fields of a directory entry stand, and the size that it takes.
+ghost use mathlib.Core.Path.{_≡_};
+ghost use Prim.Native.Nat.{_+_, _≤_};
+ghost use Rattle.model.specs.Directory.{padded};
 use crate::EntryAt;
+
+// An entry is 51 bytes and its name, here of n bytes, plus one byte to make the size even.
+pub fn entry_size(n: usize) -> usize
+    requires { ⌜ n ≤ 255 ⌝ }
+    ensures { λ r. ⌜ r ≡ padded (51 + n) ⌝ }
+{
+    let size = EntryAt::TITLE_AT + n;
+    size + size % 2
+}
 
 impl EntryAt {
     // Where its fields stand, counted from its start.

@@ -7,6 +7,7 @@ ghost use Rattle.directory.specs.Cursor.{blockOf, Fits, Stepped, Begins}
 use crate::Cursor;
 use crate::EntryAt;
 use crate::Step;
+use crate::places::entry_size;
 use model::LogicalBlock;
 
 impl Cursor {
@@ -60,8 +61,7 @@ impl Cursor {
         if name_length == 0 {
             return Step::Bad;
         }
-        let size = EntryAt::TITLE_AT + name_length;
-        let next = at + size + size % 2;
+        let next = at + entry_size(name_length);
         if Self::BLOCK < next {
             return Step::Bad;
         }

@@ -10,6 +10,7 @@ ghost use Rattle.entries.specs.Blocks.{Block, Removes};
 use directory::Cursor;
 use directory::EntryAt;
 use directory::Step;
+use directory::entry_size;
 
 // Where the reading of the directory block at byte base ends.
 pub fn read_end(image: &[u8], base: usize) -> usize
@@ -70,8 +71,7 @@ pub fn remove_entry(image: &mut [u8], base: usize, e: EntryAt)
 {
     let end = base + read_end(image, base);
     let start = e.start;
-    let size = EntryAt::TITLE_AT + e.name_length;
-    let next = start + size + size % 2;
+    let next = start + entry_size(e.name_length);
     let n = end - next;
     slide(image, start, next, n);
     let last = start + n;

@@ -1,6 +1,6 @@
 -- Laws of the new blocks that a write needs.
-use Prim.Native.Nat.{ℕ, _+_, _-_, _/_, _≤_, _<_, max}
-use mathlib.Core.Path.{_≡_, refl, sym, ap}
+use Prim.Native.Nat.{ℕ, _+_, _-_, _≤_, _<_, max}
+use mathlib.Core.Path.{_≡_, refl}
 use mathlib.Core.Bool.{Bool, true, false}
 use native.Mathlib.Omega.{arith}
 use native.Mathlib.Nat.{mul-le-mul-left, div-le-self}
@@ -21,18 +21,19 @@ pub fewest-most : (n a : ℕ) → 0 < a → fewest n a ≤ n
 fewest-most n a h = fewest-least n a n h (omega (arith, mul-le-mul-left {m = 1} {n = a} n (omega arith)))
 
 module _ (f : VolumeFacts) (g : ForkFacts) (o n : ℕ) where
-  pub new-blocks : (due : ℕ) → due ≡ fewest (max (g .logical) (o + n)) (A f) → newBlocks f g o n ≡ due - g .physical / A f
-  unfolding newBlocks needed grown blockCount
-  new-blocks due e = ap (λ x. x - g .physical / A f) (sym e)
+  pub new-blocks : (due has : ℕ) → due ≡ fewest (max (g .logical) (o + n)) (A f) → has ≡ blockCount (A f) g → newBlocks f g o n ≡ due - has
+  unfolding newBlocks needed grown
+  new-blocks due has e h = rw (e, h)
 
   -- so many bytes fit on no volume
   pub too-many : 512 ≤ A f → A f ≤ 32768 → g .physical < 4294967296 → freeCount f < 65536 → 4611686018427387904 ≤ n → freeCount f < newBlocks f g o n
+  unfolding blockCount
   too-many low high p q h =
       let size = max (g .logical) (o + n) in
       let k = fewest size (A f) in
       omega (
         arith,
-        new-blocks k refl,
+        new-blocks k (blockCount (A f) g) refl refl,
         fewest-holds size (A f) (omega arith),
         mul-le-mul-left {m = A f} {n = 32768} k high,
         div-le-self (g .physical) (A f),

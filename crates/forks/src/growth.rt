@@ -1,6 +1,7 @@
-// The blocks that a fork needs. No sum wraps, whatever is asked.
+// The blocks that a fork has, and those that it needs. No sum wraps, whatever is asked.
 ghost use mathlib.Core.Path.{_≡_};
 ghost use Prim.Native.Nat.{_+_, _≤_, max};
+ghost use Rattle.model.specs.Directory.{blockCount};
 ghost use Rattle.model.specs.Calls.{fewest};
 ghost use Rattle.forks.specs.Growth.{Grows};
 use crate::NewBlocks;
@@ -17,6 +18,14 @@ pub fn larger(a: usize, b: usize) -> usize
         return b;
     }
     a
+}
+
+// A fork's block count.
+pub fn block_count(g: ForkFacts, a: u32) -> u32
+    requires { ⌜ 512 ≤ a ⌝ }
+    ensures { λ r. ⌜ r ≡ blockCount a g ⌝ }
+{
+    g.physical / a
 }
 
 fn blocks_for(n: usize, a: usize) -> usize
@@ -46,10 +55,9 @@ pub fn new_blocks(f: VolumeFacts, g: ForkFacts, offset: usize, count: usize) -> 
             blocks: 0,
         };
     }
-    let a = f.block_size as usize;
-    let has = g.physical as usize / a;
+    let has = block_count(g, f.block_size) as usize;
     let size = larger(g.logical as usize, offset + count);
-    let due = blocks_for(size, a);
+    let due = blocks_for(size, f.block_size as usize);
     if due <= has {
         return NewBlocks {
             number: 0,

@@ -1,6 +1,5 @@
 -- `serve_create` meets its contract. Assumes nothing.
-use Prim.Native.Nat.{_+_, _%_}
-use mathlib.Core.Path.{_≡_, refl, sym, _∙_}
+use mathlib.Core.Path.{_≡_, sym, _∙_}
 use mathlib.Core.Bool.{false}
 use native.Mathlib.Omega.{arith}
 use denote.Ref.{now}
@@ -27,7 +26,14 @@ image-octets c = octets _ (c .before .before .slice-known .given)
 fits : (c : tie.After-whole) → Fits (create (now (c .before .before .before .args .name)) (now (c .before .before .before .args .finder))
     (c .before .before .before .args .created) (c .before .before .before .args .changed))
 unfolding Fits
-fits c = let s = c .before .before .before in (octets _ (c .before .shared-slice-known .given), c .whole .ensures .1, c .whole .ensures .0, omega (arith, s .fits .created), omega (arith, s .fits .changed))
+fits c =
+    let s = c .before .before .before in (
+      octets _ (c .before .shared-slice-known .given),
+      c .whole .ensures .1,
+      c .whole .ensures .0,
+      omega (arith, s .fits .created),
+      omega (arith, s .fits .changed),
+    )
 
 unlocked : (c : tie.Else1) → isLocked (c .before .before .before .before .before .args .f) ≡ false
 unlocked c = sym (c .before .is-locked .ensures) ∙ c .if1 .left
@@ -43,24 +49,27 @@ new : (c : tie.Else2) → Fresh (now (start c .args .image)) (now (start c .args
 new c =
     let n = c .before .before in
     let l = n .before .before in
-    fresh _ _ _ (names-none (now (start c .args .image)) (now (start c .args .name)) (l .lookup .result) (l .lookup .ensures) _ (n .number .given .1)) (c .if2 .left)
+    fresh _ _ _
+    (names-none (now (start c .args .image)) (now (start c .args .name)) (l .lookup .result) (l .lookup .ensures) _ (n .number .given .1))
+    (c .if2 .left)
 
 -- there is room
 abbrev fresh-at : tie.After-find-room → tie.Else2
-fresh-at c = c .before .before .before .before .before
+fresh-at c = c .before .before .before .before .before .before
 
 adds-there : (c : tie.After-base) → Adds (start (fresh-at (c .before .before)) .args .f) (now (start (fresh-at (c .before .before)) .args .image))
     (length (now (start (fresh-at (c .before .before)) .args .name))) (c .base .given .0 .0) (c .base .given .0 .1 .0)
-unfolding padded
 adds-there c =
     let r = c .before .before in
-    let e = r .before in
+    let z = r .before in
+    let e = z .before in
     let k = e .before .before in
     let s = start (fresh-at r) in
     let title = fresh-title _ _ (new (fresh-at r)) in
-    let size = 51 + length (now (s .args .name)) in
-    adds (s .args .f) (now (s .args .image)) (e .first-entry .result) (e .first-entry .ensures) (length (now (s .args .name))) (size + size % 2) refl _ _
-    (room-at _ _ _ _ (r .find-room .result) (r .find-room .ensures) _ _ (c .base .given .1)) (title .some) (title .short) (omega (arith, k .before .struct-known .given, k .if3 .left))
+    adds (s .args .f) (now (s .args .image)) (e .first-entry .result) (e .first-entry .ensures) (length (now (s .args .name)))
+    (z .entry-size .result) (z .entry-size .ensures) _ _
+    (room-at _ _ _ _ (r .find-room .result) (r .find-room .ensures) _ _ (c .base .given .1)) (title .some) (title .short)
+    (omega (arith, k .before .struct-known .given, k .if3 .left))
 
 -- ---- the needs
 
@@ -109,19 +118,20 @@ returns-3 c =
     let w = e .before .before in
     create-last (start k .pre) (image-octets w) _ _ _ _ (fits w) (unlocked e) (new k) (c .if3 .taken)
 
-add-size : tie.Need-add-size
-add-size c = search needs
-
 first-entry-requires : tie.Need-first-entry-requires
 first-entry-requires c κs = some-block (start (c .before .before .before) .pre)
 
-add-find-room : tie.Need-add-find-room
-add-find-room c = search needs
+entry-size-requires : tie.Need-entry-size-requires
+entry-size-requires c κs = fresh-title _ _ (new (c .before .before .before .before)) .short
 
 find-room-requires : tie.Need-find-room-requires
+unfolding padded
 find-room-requires c κs =
-    let k = c .before .before .before .before in
-    (first-passes (start k .pre) (c .first-entry .result) (c .first-entry .ensures), (c .first-entry .ensures .at, omega (arith, fresh-title _ _ (new k) .short)))
+    let e = c .before in
+    let k = e .before .before .before .before in (
+      first-passes (start k .pre) (e .first-entry .result) (e .first-entry .ensures),
+      (e .first-entry .ensures .at, omega (arith, c .entry-size .ensures, fresh-title _ _ (new k) .short)),
+    )
 
 enum-told-2 : tie.Need-enum-told-2
 enum-told-2 c = search needs
@@ -148,16 +158,16 @@ same-length-4 : tie.Need-same-length-4
 same-length-4 c = search needs
 
 returns-5 : tie.Need-returns-5
-unfolding padded
 returns-5 c =
     let r = c .before .before in
-    let f = r .before in
+    let z = r .before in
+    let f = z .before in
     let k = fresh-at r in
     let e = entry k in
     let w = e .before .before in
-    let size = 51 + length (now (start k .args .name)) in
-    create-full (start k .pre) (image-octets w) _ _ _ _ (fits w) (unlocked e) (new k) (f .before .before .if3 .left) (f .first-entry .result) (f .first-entry .ensures)
-    (size + size % 2) refl (room-none _ _ _ _ (r .find-room .result) (r .find-room .ensures) (c .enum-told2 .given .1))
+    create-full (start k .pre) (image-octets w) _ _ _ _ (fits w) (unlocked e) (new k) (f .before .before .if3 .left)
+    (f .first-entry .result) (f .first-entry .ensures) (z .entry-size .result) (z .entry-size .ensures)
+    (room-none _ _ _ _ (r .find-room .result) (r .find-room .ensures) (c .enum-told2 .given .1))
 
 same-length-5 : tie.Need-same-length-5
 same-length-5 c = search needs
@@ -170,7 +180,8 @@ returns-6 c =
     let k = fresh-at r in
     let e = entry k in
     let w = e .before .before in
-    create-served (start k .pre) (image-octets w) _ _ _ _ (fits w) (unlocked e) (new k) (r .before .before .before .if3 .left) _ _ (adds-there b) _ (a .add-file .ensures)
+    create-served (start k .pre) (image-octets w) _ _ _ _ (fits w) (unlocked e) (new k) (r .before .before .before .before .if3 .left)
+    _ _ (adds-there b) _ (a .add-file .ensures)
 
 pub serve-create-spec : {M : Type 1} → statement M
 serve-create-spec =
@@ -186,9 +197,8 @@ serve-create-spec =
     returns-2
     same-length-2
     returns-3
-    add-size
     first-entry-requires
-    add-find-room
+    entry-size-requires
     find-room-requires
     enum-told-2
     enum-known-base
