@@ -19,18 +19,18 @@ use Rattle.entries.specs.Rooms.{HasRoom, Roomy}
 use Rattle.model.specs.declared.VolumeFacts.{VolumeFacts}
 use Rattle.directory.specs.declared.Cursor.{Cursor}
 use Rattle.directory.specs.declared.EntryAt.{EntryAt}
-use Rattle.entries.specs.declared.Room.{Room}
-use Rattle.entries.specs.declared.Room.the-variants.{At, Nothing}
+use Rattle.entries.specs.declared.Space.{Space}
+use Rattle.entries.specs.declared.Space.the-variants.{At, Nothing}
 use Rattle.call_create.specs.Adding.{Adds, withFile}
 use Rattle.files.specs.Told.{toldNumber}
-use Rattle.files.specs.Lookup.{Readable, Found, Missed}
+use Rattle.files.specs.Lookup.{Readable, NamedEntry, Missed}
 use Rattle.call_create.proofs.Added.{adds-some}
 use Rattle.files.proofs.Replies.{refuse, serve}
 
 -- ---- the search for room from the directory's first block on
 
 -- what it finds, by its case
-module _ (image : List ℕ) (start left size : ℕ) (s : Room) (h : Roomy image start left size s) where
+module _ (image : List ℕ) (start left size : ℕ) (s : Space) (h : Roomy image start left size s) where
   pub room-at : (base end : ℕ) → s ≡ At base end → HasRoom image start left size base end
   room-at base end p = rw p at h
 
@@ -98,7 +98,7 @@ module _ {f : VolumeFacts} {image : List ℕ} (r : Readable f image) (octets : B
         let t : badName name ≡ true = missed-bad (badName name) (any (named name) (directory image)) number (m .fires) e in
         refuse r octets (create name finder made changed) 12 fits (rw (l′, t)) (λ z. omega arith)
 
-    pub create-exists : (place : ℕ) (e : EntryAt) → Found image name place e → Does (create name finder made changed) image (toldNumber 14) image
+    pub create-exists : (place : ℕ) (e : EntryAt) → NamedEntry image name place e → Does (create name finder made changed) image (toldNumber 14) image
     unfolding refuses knownIn nameOf forkGiven lent
     create-exists place e h =
         let l′ = rw (r .facts) at l in

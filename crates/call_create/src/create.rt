@@ -3,7 +3,7 @@ ghost use Rattle.model.specs.Calls.{Call, Does};
 ghost use Rattle.files.specs.Lookup.{Readable};
 ghost use Rattle.files.specs.Told.{toldNumber};
 use directory::entry_size;
-use entries::Room;
+use entries::Space;
 use files::Named;
 use files::first_entry;
 use files::is_locked;
@@ -36,8 +36,8 @@ pub fn serve_create(
                 return 19;
             }
             match entries::find_room(image, first_entry(f), entry_size(name.len())) {
-                Room::Nothing => 18,
-                Room::At(base, end) => {
+                Space::Nothing => 18,
+                Space::At(base, end) => {
                     crate::add::add_file(image, f, base, end, name, finder, created, changed);
                     0
                 }

@@ -27,7 +27,7 @@ use Rattle.model.specs.declared.VolumeFacts.{VolumeFacts}
 use Rattle.model.specs.declared.Fork.{Fork}
 use Rattle.model.specs.declared.ForkFacts.{ForkFacts}
 use Rattle.directory.specs.declared.EntryAt.{EntryAt}
-use Rattle.files.specs.Lookup.{HeldFork}
+use Rattle.files.specs.Lookup.{ForkAt}
 use Rattle.files.specs.Leaves.{Shortened}
 use Rattle.files.proofs.Forks.{large-block}
 use Rattle.files.proofs.Owned.{few, small, at-held, fork-count, fork-holds}
@@ -57,7 +57,7 @@ named-based image acc name there fork size at =
     based image acc (forkBlocks (mapEntry image) (A v) g) (afterCut (A v) image g size)
     (cut-frame (S v) (A v) (N v) (freeCount v) image (area image acc) (around image acc name there fork) (beyond image acc name there fork) g (passes-there image acc name there fork) size at)
 
-module _ {f : VolumeFacts} {image : List ℕ} {e : EntryAt} {fork : Fork} {g : ForkFacts} (h : HeldFork f image e fork g) where
+module _ {f : VolumeFacts} {image : List ℕ} {e : EntryAt} {fork : Fork} {g : ForkFacts} (h : ForkAt f image e fork g) where
   pub has-most : g .physical / A f ≤ 640
   has-most = omega (arith, few (h .held), fork-count (h .held) fork g (h .is))
 

@@ -1,7 +1,7 @@
 // A fork cut shorter.
 ghost use Prim.Native.Nat.{_≤_};
 ghost use Rattle.files.specs.Leaves.{Shortened};
-ghost use Rattle.files.specs.Lookup.{HeldFork};
+ghost use Rattle.files.specs.Lookup.{ForkAt};
 use directory::EntryAt;
 use entries::put_free;
 use forks::block_count;
@@ -22,7 +22,7 @@ pub fn shorten_fork(
     size: u32,
     changed: u32,
 )
-    requires { ⌜ HeldFork f (now image) e fork g ⌝ }
+    requires { ⌜ ForkAt f (now image) e fork g ⌝ }
     requires { ⌜ size ≤ g .logical ⌝ }
     ensures { λ _. ⌜ Shortened f (now (image .entry)) e fork g size changed (now (image .exit)) ⌝ }
 {

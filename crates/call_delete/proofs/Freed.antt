@@ -28,7 +28,7 @@ use Rattle.model.specs.declared.VolumeFacts.{VolumeFacts}
 use Rattle.model.specs.declared.Fork.the-variants.{Data, Resource}
 use Rattle.model.specs.declared.ForkFacts.{ForkFacts}
 use Rattle.directory.specs.declared.EntryAt.{EntryAt}
-use Rattle.files.specs.Lookup.{Held}
+use Rattle.files.specs.Lookup.{FileAt}
 use Rattle.files.specs.Leaves.{Deleted}
 use Rattle.files.proofs.Forks.{fork-sound, long-image}
 use Rattle.files.proofs.Owned.{few, at-held, both-count, fork-runs}
@@ -83,7 +83,7 @@ module _ (image : List ℕ) (acc : Accepted image) (name : List ℕ) (there : an
       based image acc freed (putFree image freed)
       (delete-frame (S v) (A v) (N v) (freeCount v) image (area image acc) before beyond (forkOf Data it) (forkOf Resource it) (passes-there image acc name there Data))
 
-module _ {f : VolumeFacts} {image : List ℕ} {e : EntryAt} (h : Held f image e)
+module _ {f : VolumeFacts} {image : List ℕ} {e : EntryAt} (h : FileAt f image e)
     (d r : ForkFacts) (p : d ≡ forkOf Data (bytesAt image e)) (q : r ≡ forkOf Resource (bytesAt image e)) where
   abbrev content : List ℕ
   content = forkBlocks (mapEntry image) (A f) d

@@ -1,6 +1,6 @@
 // A file taken out.
 ghost use Rattle.files.specs.Leaves.{Deleted};
-ghost use Rattle.files.specs.Lookup.{Held};
+ghost use Rattle.files.specs.Lookup.{FileAt};
 use directory::Cursor;
 use directory::EntryAt;
 use entries::put_files;
@@ -11,7 +11,7 @@ use model::VolumeFacts;
 
 // Frees both forks' blocks, takes the entry out of its directory block and lowers the number of files.
 pub fn take_file(image: &mut [u8], f: VolumeFacts, e: EntryAt)
-    requires { ⌜ Held f (now image) e ⌝ }
+    requires { ⌜ FileAt f (now image) e ⌝ }
     ensures { λ _. ⌜ Deleted f (now (image .entry)) e (now (image .exit)) ⌝ }
 {
     let n = f.allocation_blocks;

@@ -35,7 +35,7 @@ use Rattle.directory.specs.declared.EntryAt.{EntryAt}
 use Rattle.entries.proofs.Stored.{fields}
 use Rattle.forks.specs.Content.{Fillable}
 use Rattle.forks.specs.Growth.{newBlocks}
-use Rattle.files.specs.Lookup.{Held}
+use Rattle.files.specs.Lookup.{FileAt}
 use Rattle.files.proofs.Forks.{large-block, small-block, few-in-volume, free-blocks, named-fork, fork-copyable}
 use Rattle.files.proofs.Elsewhere.{held-stands, held-stored}
 
@@ -99,7 +99,7 @@ module _ (image : List ℕ) (acc : Accepted image) (name : List ℕ) (there : an
 
 -- ---- the growth of a named file's fork
 
-module _ {f : VolumeFacts} {image : List ℕ} {e : EntryAt} (h : Held f image e) (fork : Fork) (g : ForkFacts) (q : g ≡ forkOf fork (bytesAt image e)) where
+module _ {f : VolumeFacts} {image : List ℕ} {e : EntryAt} (h : FileAt f image e) (fork : Fork) (g : ForkFacts) (q : g ≡ forkOf fork (bytesAt image e)) where
   fork-is : g ≡ forkOf fork (theEntry image (h .readable .accepted) (h .name) (h .found .there .exists))
   fork-is = named-fork (h .readable) (h .found) fork g q ∙ ap (forkOf fork) (the-entry image (h .readable .accepted) (h .name) (h .found .there .exists))
 

@@ -5,7 +5,7 @@ ghost use lib.ListN.{length};
 ghost use Rattle.model.specs.Facts.{freeCount};
 ghost use Rattle.forks.specs.Growth.{newBlocks};
 ghost use Rattle.files.specs.Leaves.{Written};
-ghost use Rattle.files.specs.Lookup.{HeldFork};
+ghost use Rattle.files.specs.Lookup.{ForkAt};
 use directory::EntryAt;
 use entries::put_free;
 use forks::block_count;
@@ -28,7 +28,7 @@ pub fn grow_fork(
     bytes: &[u8],
     changed: u32,
 )
-    requires { ⌜ HeldFork f (now image) e fork g ⌝ }
+    requires { ⌜ ForkAt f (now image) e fork g ⌝ }
     requires { ⌜ (offset ≤ g .logical) × (need ≡ newBlocks f g offset (length (now bytes))) × (need ≤ freeCount f) ⌝ }
     ensures { λ _. ⌜ Written f (now (image .entry)) e fork g offset (now (bytes .entry)) changed (now (image .exit)) ⌝ }
 {

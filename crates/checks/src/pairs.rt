@@ -21,9 +21,9 @@ pub fn same(image: &[u8], d: EntryAt, e: EntryAt, field: Field) -> bool
     match field {
         Field::Number => number_of(image, d) == number_of(image, e),
         Field::Name => {
-            let d_from = d.start + EntryAt::TITLE_AT;
+            let d_from = d.start + EntryAt::NAME_AT;
             let d_to = d_from + d.name_length;
-            let e_from = e.start + EntryAt::TITLE_AT;
+            let e_from = e.start + EntryAt::NAME_AT;
             let e_to = e_from + e.name_length;
             same_name(&image[d_from..d_to], &image[e_from..e_to])
         }

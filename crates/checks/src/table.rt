@@ -47,7 +47,7 @@ fn entry_in_slot(image: &[u8], kept: u32) -> EntryAt
     let start = kept as usize - 1;
     EntryAt {
         start,
-        name_length: image[start + EntryAt::NAME_AT] as usize,
+        name_length: image[start + EntryAt::NAME_LENGTH_AT] as usize,
     }
 }
 
@@ -80,7 +80,7 @@ fn home(image: &[u8], e: EntryAt, field: Field) -> usize
     match field {
         Field::Number => spread(number_of(image, e)),
         Field::Name => {
-            let from = e.start + EntryAt::TITLE_AT;
+            let from = e.start + EntryAt::NAME_AT;
             let to = from + e.name_length;
             spread(hash_name(&image[from..to]))
         }

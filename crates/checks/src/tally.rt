@@ -1,7 +1,7 @@
 // What checks 6 and 7 ask of each entry.
 ghost use mathlib.Core.Path.{_≡_};
 ghost use Rattle.model.specs.Check.{goodNumber};
-ghost use Rattle.directory.specs.Cursor.{restOf, Fits, bytesAt, Stands};
+ghost use Rattle.directory.specs.Cursor.{restOf, CursorFits, bytesAt, Stands};
 ghost use Rattle.checks.specs.Tallied.{Tallied};
 use directory::Cursor;
 use directory::EntryAt;
@@ -30,7 +30,7 @@ fn good_number(image: &[u8], e: EntryAt, next: u32) -> bool
 
 // Check 6, and the count of entries and the test of their file numbers for check 7.
 pub fn count_entries(image: &[u8], from: Cursor, next: u32) -> Tally
-    requires { ⌜ Fits (now image) from ⌝ }
+    requires { ⌜ CursorFits (now image) from ⌝ }
     ensures { λ r. ⌜ Tallied next (restOf (now (image .entry)) from) r ⌝ }
 {
     let mut c = from;

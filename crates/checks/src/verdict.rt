@@ -6,7 +6,7 @@ ghost use Rattle.model.specs.Check.{from2, from8};
 ghost use Rattle.model.specs.Directory.{forksIn};
 ghost use Rattle.model.specs.Map.{mapEntry};
 ghost use Rattle.blockmap.specs.Decoded.{entryIn, Decoded};
-ghost use Rattle.directory.specs.Cursor.{restOf, Fits, Passes};
+ghost use Rattle.directory.specs.Cursor.{restOf, CursorFits, Passes};
 ghost use Rattle.checks.specs.Numbers.{directoryNumber, Claims, Judged, Mapped};
 use crate::limits::facts_number;
 use directory::Cursor;
@@ -16,7 +16,7 @@ use model::VolumeFacts;
 
 // Checks 6 and 7.
 fn directory_number(image: &[u8], c: Cursor, files: u16, next: u32) -> u8
-    requires { ⌜ Fits (now image) c ⌝ }
+    requires { ⌜ CursorFits (now image) c ⌝ }
     ensures { λ r. ⌜ r ≡ directoryNumber files next (restOf (now (image .entry)) c) ⌝ }
 {
     let t = crate::tally::count_entries(image, c, next);

@@ -20,7 +20,7 @@ use Rattle.directory.specs.declared.Cursor.{Cursor}
 use Rattle.directory.specs.declared.Step.{Step}
 use Rattle.directory.specs.declared.Step.the-variants.{Entry, End, Bad}
 use Rattle.directory.proofs.Parts.{part-part, part-byte}
-use Rattle.directory.specs.Cursor.{blockOf, restOf, Fits, Comes, Lies, ahead, Moves, Fails, Stepped}
+use Rattle.directory.specs.Cursor.{blockOf, restOf, CursorFits, Comes, Lies, ahead, Moves, Fails, Stepped}
 
 -- ---- any fuel that reaches the block's end is enough
 
@@ -53,7 +53,7 @@ blocks-rest image (suc k) p z =
 
 -- ---- the bytes at the cursor
 
-module _ (image : List ℕ) (c : Cursor) (f : Fits image c) where
+module _ (image : List ℕ) (c : Cursor) (f : CursorFits image c) where
   block-long : length (blockOf image c) ≡ 512
   block-long = length-take-le 512 (drop (c .base) image) (omega (arith, length-drop (c .base) image))
 

@@ -10,9 +10,9 @@ use Rattle.model.specs.Facts.{factsOf, dirStart, dirLength}
 use Rattle.model.specs.Directory.{directory, directoryBlocks}
 use Rattle.model.specs.Check.{fires6, SoundFacts}
 use Rattle.directory.specs.declared.Cursor.{Cursor}
-use Rattle.directory.specs.Cursor.{restOf, Fits, Passes, Begins}
+use Rattle.directory.specs.Cursor.{restOf, CursorFits, Passes, Begins}
 
-pub begins-fits : (image : List ℕ) (start blocks : ℕ) (c : Cursor) → Begins start blocks c → 512 * (start + blocks) ≤ length image → Fits image c
+pub begins-fits : (image : List ℕ) (start blocks : ℕ) (c : Cursor) → Begins start blocks c → 512 * (start + blocks) ≤ length image → CursorFits image c
 begins-fits image start blocks c b h = record { blocks = omega arith; place = omega arith }
 
 module _ (image : List ℕ) (c : Cursor) (b : Begins (dirStart (factsOf image)) (dirLength (factsOf image)) c) where
@@ -20,7 +20,7 @@ module _ (image : List ℕ) (c : Cursor) (b : Begins (dirStart (factsOf image)) 
   unfolding directory directoryBlocks
   begins-directory = b .rest image
 
-  pub sound-fits : SoundFacts (factsOf image) (length image) → Fits image c
+  pub sound-fits : SoundFacts (factsOf image) (length image) → CursorFits image c
   sound-fits s = begins-fits image (dirStart (factsOf image)) (dirLength (factsOf image)) c b (omega arith)
 
   pub sound-passes : SoundFacts (factsOf image) (length image) → fires6 (directory image) ≡ false → Passes image c

@@ -22,13 +22,13 @@ unfoldable pub restOf : List ℕ → Cursor → List (List ℕ)
 restOf image c = readAt 10 (blockOf image c) (c .at) ++ listing (cutBlocks (c .left) (drop (c .base + 512) image))
 
 -- the cursor's blocks are within the image, and its place is within its block
-pub record Fits (image : List ℕ) (c : Cursor) : Type 0 where
+pub record CursorFits (image : List ℕ) (c : Cursor) : Type 0 where
   pub blocks : c .base + 512 * (c .left + 1) ≤ length image
   pub place : c .at ≤ 512
 
 -- and check 6 fires for none of its entries
 pub record Passes (image : List ℕ) (c : Cursor) : Type 0 where
-  pub fits : Fits image c
+  pub fits : CursorFits image c
   pub good : fires6 (restOf image c) ≡ false
 
 -- bytes from the cursor to the end of the directory: each step leaves fewer
@@ -77,7 +77,7 @@ pub record Moves (image : List ℕ) (c : Cursor) (e : EntryAt) (d : Cursor) : Ty
   pub rest : restOf image c ≡ bytesAt image e ∷ restOf image d
   pub good : goodEntry (bytesAt image e) ≡ true
   pub stands : Stands image e
-  pub fits : Fits image d
+  pub fits : CursorFits image d
   pub less : ahead d < ahead c
   pub lies : (base blocks : ℕ) → Comes image base blocks c → Lies image base blocks e
   pub comes : (base blocks : ℕ) → Comes image base blocks c → Comes image base blocks d

@@ -13,14 +13,14 @@ use Rattle.directory.specs.declared.Cursor.{Cursor}
 use Rattle.directory.specs.Cursor.{bytesAt, Stands, Comes, Lies}
 
 -- the first entry of the name is e, at that place
-pub record Named (image name : List ℕ) (es : List (List ℕ)) (place : ℕ) (e : EntryAt) : Type 0 where
+pub record FirstNamed (image name : List ℕ) (es : List (List ℕ)) (place : ℕ) (e : EntryAt) : Type 0 where
   pub exists : any (named name) es ≡ true
   pub there : place ≡ placeOf (named name) es
   pub bytes : bytesAt image e ≡ first (named name) [] es
   pub stands : Stands image e
 
 abbrev pub Finds : List ℕ → List ℕ → List (List ℕ) → Found → Type 0
-Finds image name es (At place e) = Named image name es place e
+Finds image name es (At place e) = FirstNamed image name es place e
 Finds image name es Nothing = any (named name) es ≡ false
 
 -- and where in the directory it stands

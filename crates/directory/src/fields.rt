@@ -90,7 +90,7 @@ pub fn read_entry(image: &[u8], e: EntryAt) -> DirectoryEntry
         resource: read_fork(image, e, Fork::Resource),
         created: be32_at(image, start + EntryAt::CREATED_AT),
         changed: be32_at(image, start + EntryAt::CHANGED_AT),
-        name_length: image[start + EntryAt::NAME_AT],
-        name: name_at(image, start + EntryAt::TITLE_AT, length),
+        name_length: image[start + EntryAt::NAME_LENGTH_AT],
+        name: name_at(image, start + EntryAt::NAME_AT, length),
     }
 }

@@ -9,7 +9,7 @@ pub fn entry_size(n: usize) -> usize
     requires { ⌜ n ≤ 255 ⌝ }
     ensures { λ r. ⌜ r ≡ padded (51 + n) ⌝ }
 {
-    let size = EntryAt::TITLE_AT + n;
+    let size = EntryAt::NAME_AT + n;
     size + size % 2
 }
 
@@ -33,9 +33,9 @@ impl EntryAt {
     pub const CHANGED_AT: usize = 46;
 
     // The name's length byte, and the name behind it.
-    pub const NAME_AT: usize = 50;
+    pub const NAME_LENGTH_AT: usize = 50;
 
-    pub const TITLE_AT: usize = 51;
+    pub const NAME_AT: usize = 51;
 
     // No entry is shorter.
     pub const LEAST: usize = 52;

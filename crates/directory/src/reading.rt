@@ -3,7 +3,7 @@ ghost use mathlib.Core.Path.{_≡_};
 ghost use mathlib.Core.Bool.{false};
 ghost use Prim.Native.Nat.{_≤_};
 ghost use Rattle.model.specs.Directory.{endsAt};
-ghost use Rattle.directory.specs.Cursor.{blockOf, Fits, Stepped, Begins};
+ghost use Rattle.directory.specs.Cursor.{blockOf, CursorFits, Stepped, Begins};
 use crate::Cursor;
 use crate::EntryAt;
 use crate::Step;
@@ -29,7 +29,7 @@ impl Cursor {
 
     // Whether the block's reading ends here: at the block's end, or at an entry whose bit 7 is clear.
     fn ends(self, image: &[u8]) -> bool
-        requires { ⌜ Fits (now image) self ⌝ }
+        requires { ⌜ CursorFits (now image) self ⌝ }
         ensures { λ r. ⌜ r ≡ endsAt (blockOf (now (image .entry)) self) (self .at) ⌝ }
     {
         let at = self.at;
@@ -45,7 +45,7 @@ impl Cursor {
 
     // The entry here, where the block's reading does not end.
     fn entry(self, image: &[u8]) -> Step
-        requires { ⌜ Fits (now image) self ⌝ }
+        requires { ⌜ CursorFits (now image) self ⌝ }
         requires { ⌜ endsAt (blockOf (now image) self) (self .at) ≡ false ⌝ }
         ensures { λ r. ⌜ Stepped (now (image .entry)) self r ⌝ }
     {
@@ -57,7 +57,7 @@ impl Cursor {
         if image[start + EntryAt::VERSION_AT] != 0 {
             return Step::Bad;
         }
-        let name_length = image[start + EntryAt::NAME_AT] as usize;
+        let name_length = image[start + EntryAt::NAME_LENGTH_AT] as usize;
         if name_length == 0 {
             return Step::Bad;
         }
@@ -77,7 +77,7 @@ impl Cursor {
 
     // The next entry, in this block or in one behind it, with the cursor moved past it.
     pub fn next(self, image: &[u8]) -> Step
-        requires { ⌜ Fits (now image) self ⌝ }
+        requires { ⌜ CursorFits (now image) self ⌝ }
         ensures { λ r. ⌜ Stepped (now (image .entry)) self r ⌝ }
     {
         let mut c = self;

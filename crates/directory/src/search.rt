@@ -14,7 +14,7 @@ fn has_name(image: &[u8], e: EntryAt, name: &[u8]) -> bool
     requires { ⌜ Stands (now image) e ⌝ }
     ensures { λ r. ⌜ r ≡ named (now (name .entry)) (bytesAt (now (image .entry)) e) ⌝ }
 {
-    let from = e.start + EntryAt::TITLE_AT;
+    let from = e.start + EntryAt::NAME_AT;
     let to = from + e.name_length;
     same_name(name, &image[from..to])
 }

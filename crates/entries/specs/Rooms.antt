@@ -8,8 +8,8 @@ use Rattle.model.specs.Lists.{any}
 use Rattle.model.specs.Bytes.{part}
 use Rattle.model.specs.Directory.{readEnd, cutBlocks}
 use Rattle.model.specs.Calls.{hasRoom}
-use Rattle.entries.specs.declared.Room.{Room}
-use Rattle.entries.specs.declared.Room.the-variants.{At, Nothing}
+use Rattle.entries.specs.declared.Space.{Space}
+use Rattle.entries.specs.declared.Space.the-variants.{At, Nothing}
 
 -- block `index` of them is the first with room; it starts at byte base, and its reading ends at place end
 pub record HasRoom (image : List ℕ) (first left size base end : ℕ) : Type 0 where
@@ -20,6 +20,6 @@ pub record HasRoom (image : List ℕ) (first left size base end : ℕ) : Type 0 
   pub none : any (hasRoom size) (cutBlocks index (drop first image)) ≡ false
   pub room : hasRoom size (part base 512 image) ≡ true
 
-abbrev pub Roomy : List ℕ → ℕ → ℕ → ℕ → Room → Type 0
+abbrev pub Roomy : List ℕ → ℕ → ℕ → ℕ → Space → Type 0
 Roomy image first left size (At base end) = HasRoom image first left size base end
 Roomy image first left size Nothing = any (hasRoom size) (cutBlocks (left + 1) (drop first image)) ≡ false

@@ -10,7 +10,7 @@ ghost use Rattle.model.specs.Calls.{newEntry, filled};
 ghost use Rattle.directory.specs.Cursor.{Passes};
 ghost use Rattle.entries.specs.Blocks.{Block};
 ghost use Rattle.entries.specs.Rooms.{Roomy};
-use crate::Room;
+use crate::Space;
 use crate::numbers::put16_at;
 use crate::numbers::put32_at;
 use crate::remove::clear;
@@ -19,7 +19,7 @@ use directory::Cursor;
 use directory::EntryAt;
 
 // The first directory block, from a cursor at a block's start on, that has room for so many bytes.
-pub fn find_room(image: &[u8], from: Cursor, size: usize) -> Room
+pub fn find_room(image: &[u8], from: Cursor, size: usize) -> Space
     requires { ⌜ Passes (now image) from ⌝ }
     requires { ⌜ from .at ≡ 0 ⌝ }
     requires { ⌜ size ≤ 512 ⌝ }
@@ -30,11 +30,11 @@ pub fn find_room(image: &[u8], from: Cursor, size: usize) -> Room
         let base = from.base + Cursor::BLOCK * i;
         let end = read_end(image, base);
         if end + size <= Cursor::BLOCK {
-            return Room::At(base, end);
+            return Space::At(base, end);
         }
         i += 1;
     }
-    Room::Nothing
+    Space::Nothing
 }
 
 // Stores bytes from a place on.
@@ -72,8 +72,8 @@ pub fn insert_entry(
     clear(image, at + EntryAt::DATA_AT, 20);
     put32_at(image, at + EntryAt::CREATED_AT, created);
     put32_at(image, at + EntryAt::CHANGED_AT, changed);
-    image[at + EntryAt::NAME_AT] = name.len() as u8;
-    put_bytes(image, at + EntryAt::TITLE_AT, name);
-    let behind = at + EntryAt::TITLE_AT + name.len();
+    image[at + EntryAt::NAME_LENGTH_AT] = name.len() as u8;
+    put_bytes(image, at + EntryAt::NAME_AT, name);
+    let behind = at + EntryAt::NAME_AT + name.len();
     clear(image, behind, base + Cursor::BLOCK - behind);
 }

@@ -15,7 +15,7 @@ pub use insert::insert_entry;
 pub use remove::remove_entry;
 
 // Where a new entry has room.
-pub enum Room {
+pub enum Space {
     // The byte of the image where the directory block starts, and how far into the block its reading ends.
     At(usize, usize),
     Nothing,

@@ -28,9 +28,9 @@ use Rattle.entries.proofs.Blocks.{size-here}
 use Rattle.entries.proofs.Stored.{fields}
 use Rattle.entries.proofs.Located.{entry-within, fork-stored, own-block, own-start, lies-block, entry-removed}
 use Rattle.entries.proofs.Elsewhere.{bytes-elsewhere, lies-elsewhere, stands-elsewhere}
-use Rattle.files.specs.Lookup.{Found, Held}
+use Rattle.files.specs.Lookup.{NamedEntry, FileAt}
 
-module _ {image name : List ℕ} {place : ℕ} {e : EntryAt} (acc : Accepted image) (h : Found image name place e) (base : List ℕ) (b : Based image base) where
+module _ {image name : List ℕ} {place : ℕ} {e : EntryAt} (acc : Accepted image) (h : NamedEntry image name place e) (base : List ℕ) (b : Based image base) where
   abbrev f : VolumeFacts
   f = factsOf image
 
@@ -99,7 +99,7 @@ module _ {image name : List ℕ} {place : ℕ} {e : EntryAt} (acc : Accepted ima
       entry-removed f base e lies name has-same differ-same clean-same within-same after (subst (λ (p : ℕ). Removes base p e after) start s)
       ∙ ap (λ (t : List (List ℕ)). withDirectory f base (removed name t)) (b .blocks)
 
-module _ {f : VolumeFacts} {image : List ℕ} {e : EntryAt} (h : Held f image e) (base : List ℕ) (b : Based image base) where
+module _ {f : VolumeFacts} {image : List ℕ} {e : EntryAt} (h : FileAt f image e) (base : List ℕ) (b : Based image base) where
   pub held-stands : Stands base e
   held-stands = stands (h .readable .accepted) (h .found) base b
 

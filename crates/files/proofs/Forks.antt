@@ -23,7 +23,7 @@ use Rattle.model.specs.declared.VolumeFacts.{VolumeFacts}
 use Rattle.model.specs.declared.Fork.{Fork}
 use Rattle.model.specs.declared.ForkFacts.{ForkFacts}
 use Rattle.directory.specs.declared.EntryAt.{EntryAt}
-use Rattle.files.specs.Lookup.{Readable, Found}
+use Rattle.files.specs.Lookup.{Readable, NamedEntry}
 use Rattle.forks.specs.Content.{Copyable}
 use Rattle.forks.proofs.Copying.{copyable}
 
@@ -43,7 +43,7 @@ module _ {f : VolumeFacts} {image : List ℕ} (r : Readable f image) where
   pub long-image : 2048 ≤ length image
   long-image = omega (arith, r .accepted .facts .many)
 
-module _ {f : VolumeFacts} {image name : List ℕ} {place : ℕ} {e : EntryAt} (r : Readable f image) (h : Found image name place e) where
+module _ {f : VolumeFacts} {image name : List ℕ} {place : ℕ} {e : EntryAt} (r : Readable f image) (h : NamedEntry image name place e) where
   pub named-bytes : bytesAt image e ≡ entryNamed name image
   unfolding entryNamed
   named-bytes = h .there .bytes

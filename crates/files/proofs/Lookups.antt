@@ -23,7 +23,7 @@ use Rattle.directory.specs.declared.Found as sort
 use Rattle.directory.specs.declared.Found.the-variants as found
 use Rattle.files.specs.declared.Named.{Named}
 use Rattle.files.specs.declared.Named.the-variants.{At, Refused}
-use Rattle.files.specs.Lookup.{Readable, Found, Missed, Names}
+use Rattle.files.specs.Lookup.{Readable, NamedEntry, Missed, Names}
 
 -- ---- names
 
@@ -46,7 +46,7 @@ missed-title image name h = record { fires = rw h; some = λ z. omega arith }
 
 -- what a name names, by its case
 module _ (image name : List ℕ) (n : Named) (h : Names image name n) where
-  pub names-file : (place : ℕ) (e : EntryAt) → n ≡ At place e → Found image name place e
+  pub names-file : (place : ℕ) (e : EntryAt) → n ≡ At place e → NamedEntry image name place e
   names-file place e p = rw p at h
 
   pub names-none : (number : ℕ) → n ≡ Refused number → Missed image name number
@@ -77,7 +77,7 @@ module _ {f : VolumeFacts} {image : List ℕ} (r : Readable f image) where
       given-none p = rw first-rest at (rw p at h)
 
     module _ (name : List ℕ) (s : sort.Found) (h : Finds image name (restOf image c) s) (l : Located image c s) (good : badName name ≡ false) where
-      pub found-at : (place : ℕ) (e : EntryAt) → s ≡ found.At place e → Found image name place e
+      pub found-at : (place : ℕ) (e : EntryAt) → s ≡ found.At place e → NamedEntry image name place e
       found-at place e p =
           let f′ = factsOf image in
           record {

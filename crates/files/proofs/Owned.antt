@@ -20,10 +20,10 @@ use Rattle.model.specs.declared.Fork.{Fork}
 use Rattle.model.specs.declared.Fork.the-variants.{Data, Resource}
 use Rattle.model.specs.declared.ForkFacts.{ForkFacts}
 use Rattle.directory.specs.declared.EntryAt.{EntryAt}
-use Rattle.files.specs.Lookup.{Held}
+use Rattle.files.specs.Lookup.{FileAt}
 use Rattle.files.proofs.Forks.{named-bytes, fork-sound, starts}
 
-module _ {f : VolumeFacts} {image : List ℕ} {e : EntryAt} (h : Held f image e) where
+module _ {f : VolumeFacts} {image : List ℕ} {e : EntryAt} (h : FileAt f image e) where
   pub few : N f ≤ 640
   few = rw (h .readable .facts) (h .readable .accepted .facts .most)
 

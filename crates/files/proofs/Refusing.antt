@@ -21,7 +21,7 @@ use Rattle.directory.specs.declared.EntryAt.{EntryAt}
 use Rattle.files.specs.Told.{toldNumber}
 use Rattle.files.specs.declared.Named.{Named}
 use Rattle.files.specs.declared.Named.the-variants.{At, Refused}
-use Rattle.files.specs.Lookup.{Readable, Found, Missed, Changeable, Barred, MayChange, begins}
+use Rattle.files.specs.Lookup.{Readable, NamedEntry, Missed, Changeable, Barred, MayChange, begins}
 use Rattle.files.proofs.Forks.{named-bytes}
 use Rattle.files.proofs.Replies.{fires-before, refuse, serve}
 
@@ -81,7 +81,7 @@ module _ {f : VolumeFacts} {image : List ℕ} (r : Readable f image) (name : Lis
         h .fires ∙ fires-before (badName name) none rest (λ e. h .some (h .fires ∙ e)) in
         record { fires = rw (locked-in false unlocked) later; some = h .some }
 
-    module _ (place : ℕ) (e : EntryAt) (h : Found image name place e) where
+    module _ (place : ℕ) (e : EntryAt) (h : NamedEntry image name place e) where
       pub barred-15 : flagsLock (byte (bytesAt image e) 0) ≡ true → Barred image name 15
       barred-15 l =
           let l′ = rw (named-bytes r h) at l in

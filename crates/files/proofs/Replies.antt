@@ -28,7 +28,7 @@ use Rattle.model.specs.declared.Fork.{Fork}
 use Rattle.model.specs.declared.ForkFacts.{ForkFacts}
 use Rattle.directory.specs.declared.EntryAt.{EntryAt}
 use Rattle.files.specs.Told.{toldEntry, toldFind, toldBlock, toldRead}
-use Rattle.files.specs.Lookup.{Readable, Found, Missed}
+use Rattle.files.specs.Lookup.{Readable, NamedEntry, Missed}
 use Rattle.files.proofs.Forks.{named-bytes, named-fork}
 
 -- a test behind 12 and 13 changes nothing where one of them fires
@@ -65,7 +65,7 @@ module _ {f : VolumeFacts} {image : List ℕ} (r : Readable f image) (octets : B
     unfolding Fits refuses knownIn nameOf forkGiven only lent
     find-refused number n z h = rw z (refuse (find name) number fits (h .fires) (h .some))
 
-    pub find-served : (place : ℕ) (e : EntryAt) (n : DirectoryEntry) → n ≡ entryIn (bytesAt image e) → Found image name place e
+    pub find-served : (place : ℕ) (e : EntryAt) (n : DirectoryEntry) → n ≡ entryIn (bytesAt image e) → NamedEntry image name place e
         → Does (find name) image (toldFind (record { number = 0; place = place; entry = n })) image
     unfolding Fits refuses knownIn nameOf forkGiven reply change tellsEntry
     find-served place e n q h = rw (q, named-bytes r h, h .there .there) (serve (find name) fits (rw (h .title, h .there .exists)))
@@ -80,7 +80,7 @@ module _ {f : VolumeFacts} {image : List ℕ} (r : Readable f image) (octets : B
         (h .fires ∙ fires-before (badName name) (not (any (named name) (directory image))) _ (λ e. h .some (h .fires ∙ e)))
         (h .some)
 
-    module _ (at : ℕ) (e : EntryAt) (h : Found image name at e) (g : ForkFacts) (q : g ≡ forkOf fork (bytesAt image e)) where
+    module _ (at : ℕ) (e : EntryAt) (h : NamedEntry image name at e) (g : ForkFacts) (q : g ≡ forkOf fork (bytesAt image e)) where
       pub block-beyond : g .physical / A f ≤ place → Does (block name fork place) image (toldBlock (record { number = 16; block = record { 0 = 0 } })) image
       unfolding Fits refuses knownIn nameOf forkGiven only lent blockCount
       block-beyond l =
@@ -105,7 +105,7 @@ module _ {f : VolumeFacts} {image : List ℕ} (r : Readable f image) (octets : B
         (h .fires ∙ fires-before (badName name) (not (any (named name) (directory image))) _ (λ e. h .some (h .fires ∙ e)))
         (h .some)
 
-    module _ (at : ℕ) (e : EntryAt) (h : Found image name at e) (g : ForkFacts) (q : g ≡ forkOf fork (bytesAt image e)) where
+    module _ (at : ℕ) (e : EntryAt) (h : NamedEntry image name at e) (g : ForkFacts) (q : g ≡ forkOf fork (bytesAt image e)) where
       pub read-beyond : g .logical < offset → Does (read name fork offset buffer) image (toldRead (record { number = 16; count = 0 }) buffer) image
       unfolding Fits refuses knownIn nameOf forkGiven only lent
       read-beyond l =

@@ -10,7 +10,7 @@ use Rattle.model.specs.Directory.{directory, forkOf, flagsLock, named}
 use Rattle.model.specs.Check.{orElse, Accepted}
 use Rattle.model.specs.Calls.{badName, entryNamed}
 use Rattle.directory.specs.Cursor.{bytesAt, Lies}
-use Rattle.directory.specs.Search as search
+use Rattle.directory.specs.Search.{FirstNamed}
 use Rattle.directory.specs.declared.EntryAt.{EntryAt}
 use Rattle.model.specs.declared.VolumeFacts.{VolumeFacts}
 use Rattle.model.specs.declared.Fork.{Fork}
@@ -24,9 +24,9 @@ pub record Readable (f : VolumeFacts) (image : List ℕ) : Type 0 where
   pub accepted : Accepted image
 
 -- the entry of a good name, with its place in directory order, and where in the directory it stands
-pub record Found (image name : List ℕ) (place : ℕ) (e : EntryAt) : Type 0 where
+pub record NamedEntry (image name : List ℕ) (place : ℕ) (e : EntryAt) : Type 0 where
   pub title : badName name ≡ false
-  pub there : search.Named image name (directory image) place e
+  pub there : FirstNamed image name (directory image) place e
   pub lies : Lies image (512 * dirStart (factsOf image)) (dirLength (factsOf image)) e
 
 -- 12 or 13
@@ -35,13 +35,13 @@ pub record Missed (image name : List ℕ) (number : ℕ) : Type 0 where
   pub some : number ≡ 0 → ⊥
 
 abbrev pub Names : List ℕ → List ℕ → Named → Type 0
-Names image name (At place e) = Found image name place e
+Names image name (At place e) = NamedEntry image name place e
 Names image name (Refused number) = Missed image name number
 
 -- the entry of a name where neither the volume nor the file is locked
 pub record Changeable (image name : List ℕ) (place : ℕ) (e : EntryAt) : Type 0 where
   pub writable : isLocked (factsOf image) ≡ false
-  pub found : Found image name place e
+  pub found : NamedEntry image name place e
   pub unlocked : flagsLock (byte (bytesAt image e) 0) ≡ false
 
 -- 11, 12, 13 and 15, which a call that changes the file of a name begins with, then the rest
@@ -60,13 +60,13 @@ MayChange image name (At place e) = Changeable image name place e
 MayChange image name (Refused number) = Barred image name number
 
 -- e is the entry of a name in an accepted image, whose facts are f
-pub record Held (f : VolumeFacts) (image : List ℕ) (e : EntryAt) : Type 0 where
+pub record FileAt (f : VolumeFacts) (image : List ℕ) (e : EntryAt) : Type 0 where
   pub readable : Readable f image
   pub name : List ℕ
   pub place : ℕ
-  pub found : Found image name place e
+  pub found : NamedEntry image name place e
 
 -- and g is a fork of it
-pub record HeldFork (f : VolumeFacts) (image : List ℕ) (e : EntryAt) (fork : Fork) (g : ForkFacts) : Type 0 where
-  pub held : Held f image e
+pub record ForkAt (f : VolumeFacts) (image : List ℕ) (e : EntryAt) (fork : Fork) (g : ForkFacts) : Type 0 where
+  pub held : FileAt f image e
   pub is : g ≡ forkOf fork (bytesAt image e)

@@ -27,8 +27,6 @@ impl VolumeFacts {
     // The volume information is 64 bytes at byte 1024 of the image.
     pub const AT: usize = 1024;
 
-    pub const SIZE: usize = 64;
-
     // Where its fields stand, counted from there. The signature stands first.
     pub const SIGNATURE_AT: usize = 0;
 
@@ -56,8 +54,10 @@ impl VolumeFacts {
 
     pub const FREE_BLOCKS_AT: usize = 34;
 
-    // The name's length byte; the name stands behind it.
-    pub const NAME_AT: usize = 36;
+    // The name's length byte, and the name behind it.
+    pub const NAME_LENGTH_AT: usize = 36;
+
+    pub const NAME_AT: usize = 37;
 
     pub const SIGNATURE: u16 = 0xd2d7;
 
@@ -104,8 +104,8 @@ impl VolumeFacts {
             allocation_start: LogicalBlock(be16_at(v, Self::ALLOCATION_START_AT) as u32),
             next_number: be32_at(v, Self::NEXT_NUMBER_AT),
             free_blocks: be16_at(v, Self::FREE_BLOCKS_AT),
-            name_length: v[Self::NAME_AT],
-            name: name_at(v, Self::NAME_AT + 1),
+            name_length: v[Self::NAME_LENGTH_AT],
+            name: name_at(v, Self::NAME_AT),
         }
     }
 }

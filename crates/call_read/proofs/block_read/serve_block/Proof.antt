@@ -5,7 +5,7 @@ use denote.Ref.{now}
 use Rattle.model.specs.Facts.{A}
 use Rattle.model.specs.Bytes.{Bytes}
 use Rattle.model.specs.Directory.{blockCount}
-use Rattle.files.specs.Lookup.{Found}
+use Rattle.files.specs.Lookup.{NamedEntry}
 use Rattle.files.proofs.Octets.{octets}
 use Rattle.files.proofs.Lookups.{names-file, names-none}
 use Rattle.files.proofs.Forks.{few-blocks, has-place, large-block, long-image}
@@ -27,7 +27,7 @@ module _ (c : tie.After-lookup) where
 
 -- the file that the name names
 file : (c : tie.After-e) → let a = start (c .before .before) .args in
-    Found (now (a .image)) (now (a .name)) (c .e .given .0 .0) (c .e .given .0 .1 .0)
+    NamedEntry (now (a .image)) (now (a .name)) (c .e .given .0 .0) (c .e .given .0 .1 .0)
 file c =
     let l = c .before .before in
     let a = start l .args in

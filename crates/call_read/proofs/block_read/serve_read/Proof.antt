@@ -1,7 +1,7 @@
 -- `serve_read` meets its contract. Assumes nothing.
 use native.Mathlib.Omega.{arith}
 use denote.Ref.{now}
-use Rattle.files.specs.Lookup.{Found}
+use Rattle.files.specs.Lookup.{NamedEntry}
 use Rattle.files.proofs.Octets.{octets}
 use Rattle.files.proofs.Lookups.{names-file, names-none}
 use Rattle.files.proofs.Forks.{fork-copyable}
@@ -20,7 +20,7 @@ enum-known-e : tie.Need-enum-known-e
 enum-known-e c = search needs
 
 file : (c : tie.After-e)
-    → Found (now (c .before .before .before .before .before .before .args .image)) (now (c .before .before .before .before .before .before .args .name))
+    → NamedEntry (now (c .before .before .before .before .before .before .args .image)) (now (c .before .before .before .before .before .before .args .name))
     (c .e .given .0 .0) (c .e .given .0 .1 .0)
 file c =
     let l = c .before .before in

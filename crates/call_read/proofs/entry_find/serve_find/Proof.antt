@@ -1,6 +1,6 @@
 -- `serve_find` meets its contract. Assumes nothing.
 use denote.Ref.{now}
-use Rattle.files.specs.Lookup.{Found}
+use Rattle.files.specs.Lookup.{NamedEntry}
 use Rattle.files.proofs.Octets.{octets}
 use Rattle.files.proofs.Lookups.{names-file, names-none}
 use Rattle.files.proofs.Replies.{find-refused, find-served}
@@ -21,7 +21,7 @@ enum-known-place : tie.Need-enum-known-place
 enum-known-place c = search needs
 
 file : (c : tie.After-place)
-    → Found (now (c .before .before .before .before .before .args .image)) (now (c .before .before .before .before .before .args .name)) (c .place .given .0 .0) (c .place .given .0 .1 .0)
+    → NamedEntry (now (c .before .before .before .before .before .args .image)) (now (c .before .before .before .before .before .args .name)) (c .place .given .0 .0) (c .place .given .0 .1 .0)
 file c =
     let l = c .before .before in
     let a = l .before .before .before .args in

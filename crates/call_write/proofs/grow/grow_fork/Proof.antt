@@ -10,7 +10,7 @@ use Rattle.model.specs.Lists.{firstOr0}
 use Rattle.model.specs.Facts.{A}
 use Rattle.model.specs.Map.{putChain}
 use Rattle.model.specs.Directory.{blockCount}
-use Rattle.files.specs.Lookup.{Held}
+use Rattle.files.specs.Lookup.{FileAt}
 use Rattle.files.proofs.Forks.{large-block, few-in-volume, free-blocks, long-image, has-chain}
 use Rattle.call_write.proofs.Grown.{grownBlocks, grownBase, grown-few, grown-fillable, grown-stored}
 use Rattle.call_write.proofs.Grown.{grown-fits, grown-most, grown-stands, grown-written}
@@ -78,7 +78,7 @@ origin c = first (filled c)
 -- ---- what is known
 
 module _ (s : tie.Start) where
-  held : Held (s .args .f) (now (s .args .image)) (s .args .e)
+  held : FileAt (s .args .f) (now (s .args .image)) (s .args .e)
   held = s .pre .0 .held
 
   blocks-few : s .args .g .physical / A (s .args .f) + s .args .need ≤ 640

@@ -11,7 +11,7 @@ use lib.ListN.{length}
 use borrow.Author.Tests.{not-true, not-false}
 use Rattle.model.specs.Lists.{every}
 use Rattle.model.specs.Check.{fires6, goodNumber}
-use Rattle.directory.specs.Cursor.{restOf, Fits, ahead, bytesAt, Moves}
+use Rattle.directory.specs.Cursor.{restOf, CursorFits, ahead, bytesAt, Moves}
 use Rattle.directory.proofs.Each.{moved, ended, failed, six-more, six-none, six-fails, differs}
 use Rattle.directory.proofs.Tests.{every-pass, every-fail}
 use borrow.Author.Needs.{needs}
@@ -20,7 +20,7 @@ use Rattle.checks.proofs.tally.count_entries.Tie as tie
 
 abbrev Inv-loop : tie.InvT-loop
 Inv-loop image next c₀ count₀ numbered₀ c count numbered =
-    Fits image c × (count + ahead c ≤ ahead c₀)
+    CursorFits image c × (count + ahead c ≤ ahead c₀)
     × (fires6 (restOf image c₀) ≡ fires6 (restOf image c)) × (length (restOf image c₀) ≡ count + length (restOf image c))
     × (every (goodNumber next) (restOf image c₀) ≡ (numbered && every (goodNumber next) (restOf image c)))
 

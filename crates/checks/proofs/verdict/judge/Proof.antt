@@ -7,7 +7,7 @@ use Rattle.model.specs.Facts.{N}
 use Rattle.model.specs.Map.{mapEntry}
 use Rattle.model.specs.Directory.{directory}
 use Rattle.model.specs.Check.{fires5, SoundFacts}
-use Rattle.directory.specs.Cursor.{restOf, Fits}
+use Rattle.directory.specs.Cursor.{restOf, CursorFits}
 use Rattle.directory.proofs.Whole.{begins-fits}
 use Rattle.checks.proofs.Agreeing.{five-alike}
 use Rattle.checks.proofs.Numbers.{by-facts, facts-sound, by-map5, by-directory, by-forks, directory-passes, rest-directory, judged-sized}
@@ -47,7 +47,7 @@ new-requires c κs = sound (c .before .before .before .before .before) .dirSome
 entries : (c : tie.After-new) → let s = c .before .before .before .before .before .before .before .before .before in restOf (now (s .args .image)) (c .new .result) ≡ directory (now (s .args .image))
 entries c = rest-directory _ _ (c .before .before .before .before .before .before .before .before .before .pre .facts) _ (c .new .ensures)
 
-fits : (c : tie.After-new) → let s = c .before .before .before .before .before .before .before .before .before in Fits (now (s .args .image)) (c .new .result)
+fits : (c : tie.After-new) → let s = c .before .before .before .before .before .before .before .before .before in CursorFits (now (s .args .image)) (c .new .result)
 fits c = let s = sound (c .before .before .before .before .before .before) in begins-fits _ _ _ _ (c .new .ensures) (omega arith)
 
 directory-number-requires : tie.Need-directory-number-requires

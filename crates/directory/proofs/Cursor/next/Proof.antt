@@ -6,7 +6,7 @@ use native.Mathlib.Omega.{arith}
 use mathlib.Core.Bool.{true}
 use denote.Ref.{now}
 use Rattle.model.specs.Directory.{endsAt}
-use Rattle.directory.specs.Cursor.{blockOf, restOf, Fits, Comes, ahead}
+use Rattle.directory.specs.Cursor.{blockOf, restOf, CursorFits, Comes, ahead}
 use Rattle.directory.proofs.Steps.{last-block, next-block, comes-block, stepped-from}
 use Rattle.directory.proofs.Cursor.next.Statement.{statement}
 use Rattle.directory.proofs.Cursor.next.Tie as tie
@@ -15,7 +15,7 @@ use Rattle.directory.proofs.Cursor.entry.Reads as entry-reads
 
 abbrev Inv-loop : tie.InvT-loop
 Inv-loop image c₀ c =
-    Fits image c × (restOf image c₀ ≡ restOf image c) × (ahead c ≤ ahead c₀)
+    CursorFits image c × (restOf image c₀ ≡ restOf image c) × (ahead c ≤ ahead c₀)
     × ((base blocks : ℕ) → Comes image base blocks c₀ → Comes image base blocks c)
 
 abbrev μ-loop : tie.MeasureT-loop

@@ -9,7 +9,7 @@ use denote.Ref.{now}
 use Rattle.model.specs.Lists.{any, first, placeOf}
 use Rattle.model.specs.Directory.{named}
 use Rattle.directory.specs.Cursor.{restOf, Passes, ahead, bytesAt, Comes, Moves}
-use Rattle.directory.specs.Search.{Named}
+use Rattle.directory.specs.Search.{FirstNamed}
 use Rattle.directory.proofs.Each.{moved, ended, failed, passes-more, never-fails}
 use Rattle.directory.proofs.Tests.{any-pass, any-fail, first-pass, first-fail, place-pass, place-fail}
 use borrow.Author.Needs.{needs}
@@ -59,7 +59,7 @@ returns c =
     let has = sym (c .before .has-name .ensures) ∙ c .if1 .taken in
     let m = step k in
     let place = ap (placeOf (test k)) (m .rest) ∙ place-pass (test k) (bytes k) (rest k) has in
-    let found : Named (now (k .before .before .before .before .before .before .args .image)) (now (k .before .before .before .before .before .before .args .name)) (restOf (now (k .before .before .before .before .before .before .args .image)) (k .before .before .before .before .before .before .args .from)) (l .place) (k .e .given .0 .0)
+    let found : FirstNamed (now (k .before .before .before .before .before .before .args .image)) (now (k .before .before .before .before .before .before .args .name)) (restOf (now (k .before .before .before .before .before .before .args .image)) (k .before .before .before .before .before .before .args .from)) (l .place) (k .e .given .0 .0)
     = record {
       exists = l .inv .2 ∙ ap (any (test k)) (m .rest) ∙ any-pass (test k) (bytes k) (rest k) has;
       there = omega arith;

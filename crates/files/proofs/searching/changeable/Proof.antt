@@ -3,7 +3,7 @@ use mathlib.Core.Path.{_≡_, sym, _∙_}
 use mathlib.Core.Bool.{false}
 use denote.Ref.{now}
 use Rattle.model.specs.Facts.{isLocked}
-use Rattle.files.specs.Lookup.{Found}
+use Rattle.files.specs.Lookup.{NamedEntry}
 use Rattle.files.proofs.Lookups.{names-file, names-none}
 use Rattle.files.proofs.Refusing.{barred-11, barred-name, barred-15, unbarred}
 use borrow.Author.Needs.{needs}
@@ -22,7 +22,7 @@ unlocked c = sym (past c .is-locked .ensures) ∙ c .before .if1 .left
 
 -- the file that the name names
 file : (c : tie.After-place) → let a = start (past (c .before .before)) .args in
-    Found (now (a .image)) (now (a .name)) (c .place .given .0 .0) (c .place .given .0 .1 .0)
+    NamedEntry (now (a .image)) (now (a .name)) (c .place .given .0 .0) (c .place .given .0 .1 .0)
 file c =
     let l = c .before .before in
     let a = start (past l) .args in

@@ -85,9 +85,6 @@ be16-at-requires-8 c κs = within (start (c .before .before .before .before .bef
 shared-slice-read-t24 : tie.Need-shared-slice-read-t24
 shared-slice-read-t24 c = within (start (c .before .before .before .before .before .before .before .before)) _ tt
 
-add-name-at : tie.Need-add-name-at
-add-name-at c = search needs
-
 name-at-requires : tie.Need-name-at-requires
 name-at-requires c κs = within (start (c .before .before .before .before .before .before .before .before)) _ tt
 
@@ -148,6 +145,5 @@ read-spec =
     be32-at-requires-5
     be16-at-requires-8
     shared-slice-read-t24
-    add-name-at
     name-at-requires
     returns)
