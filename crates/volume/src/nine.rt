@@ -1,6 +1,13 @@
 // Whichever of the nine calls is made, it is an event of the claim on every run.
 ghost use Rattle.volume.specs.Runs.{callOf, Happens};
+use crate::Outcome;
 use crate::Wanted;
+use crate::answer_of::of_block;
+use crate::answer_of::of_check;
+use crate::answer_of::of_entry;
+use crate::answer_of::of_find;
+use crate::answer_of::of_number;
+use crate::answer_of::of_read;
 use crate::changing::create;
 use crate::changing::cut;
 use crate::changing::delete;
@@ -12,7 +19,7 @@ use crate::reading::find;
 use crate::reading::read;
 use model::Fork;
 
-// Makes the call that is wanted with what it needs of all this, and gives its number.
+// Makes the call that is wanted with what it needs of all this, and gives back what that call gives.
 pub fn one_of_nine(
     image: &mut [u8],
     wanted: Wanted,
@@ -24,18 +31,18 @@ pub fn one_of_nine(
     bytes: &[u8],
     created: u32,
     changed: u32,
-) -> u8
+) -> Outcome
     ensures { λ r. ⌜ Happens (callOf wanted (now (name .entry)) fork place (now (buffer .entry)) (now (finder .entry)) (now (bytes .entry)) created changed) (now (image .entry)) r (now (buffer .entry)) (now (buffer .exit)) (now (image .exit)) ⌝ }
 {
     match wanted {
-        Wanted::Check => check(image).number,
-        Wanted::Entry => entry(image, place).number,
-        Wanted::Find => find(image, name).number,
-        Wanted::Block => block(image, name, fork, place).number,
-        Wanted::Read => read(image, name, fork, place, buffer).number,
-        Wanted::Create => create(image, name, finder, created, changed),
-        Wanted::Write => write(image, name, fork, place, bytes, changed),
-        Wanted::Cut => cut(image, name, fork, place, changed),
-        Wanted::Delete => delete(image, name),
+        Wanted::Check => of_check(check(image)),
+        Wanted::Entry => of_entry(entry(image, place)),
+        Wanted::Find => of_find(find(image, name)),
+        Wanted::Block => of_block(block(image, name, fork, place)),
+        Wanted::Read => of_read(read(image, name, fork, place, buffer)),
+        Wanted::Create => of_number(create(image, name, finder, created, changed)),
+        Wanted::Write => of_number(write(image, name, fork, place, bytes, changed)),
+        Wanted::Cut => of_number(cut(image, name, fork, place, changed)),
+        Wanted::Delete => of_number(delete(image, name)),
     }
 }

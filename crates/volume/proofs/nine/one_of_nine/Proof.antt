@@ -4,7 +4,7 @@ use denote.Ref.{now}
 use borrow.Author.Needs.{needs}
 use Rattle.model.specs.Calls.{lent, only}
 use Rattle.volume.specs.Runs.{callOf}
-use Rattle.volume.proofs.Runs.{happens, lent-whole}
+use Rattle.volume.proofs.Runs.{happens, read-happens}
 use Rattle.volume.proofs.nine.one_of_nine.Statement.{statement}
 use Rattle.volume.proofs.nine.one_of_nine.Tie as tie
 
@@ -14,11 +14,17 @@ enum-told c = search needs
 check-requires : tie.Need-check-requires
 check-requires c κs = search needs
 
+of-check-requires : tie.Need-of-check-requires
+of-check-requires c κs = search needs
+
 enum-told-2 : tie.Need-enum-told-2
 enum-told-2 c = search needs
 
 entry-requires : tie.Need-entry-requires
 entry-requires c κs = search needs
+
+of-entry-requires : tie.Need-of-entry-requires
+of-entry-requires c κs = search needs
 
 enum-told-3 : tie.Need-enum-told-3
 enum-told-3 c = search needs
@@ -26,11 +32,17 @@ enum-told-3 c = search needs
 find-requires : tie.Need-find-requires
 find-requires c κs = search needs
 
+of-find-requires : tie.Need-of-find-requires
+of-find-requires c κs = search needs
+
 enum-told-4 : tie.Need-enum-told-4
 enum-told-4 c = search needs
 
 block-requires : tie.Need-block-requires
 block-requires c κs = search needs
+
+of-block-requires : tie.Need-of-block-requires
+of-block-requires c κs = search needs
 
 enum-told-5 : tie.Need-enum-told-5
 enum-told-5 c = search needs
@@ -38,11 +50,17 @@ enum-told-5 c = search needs
 read-requires : tie.Need-read-requires
 read-requires c κs = search needs
 
+of-read-requires : tie.Need-of-read-requires
+of-read-requires c κs = search needs
+
 enum-told-6 : tie.Need-enum-told-6
 enum-told-6 c = search needs
 
 create-requires : tie.Need-create-requires
 create-requires c κs = search needs
+
+of-number-requires : tie.Need-of-number-requires
+of-number-requires c κs = search needs
 
 enum-told-7 : tie.Need-enum-told-7
 enum-told-7 c = search needs
@@ -50,11 +68,17 @@ enum-told-7 c = search needs
 write-requires : tie.Need-write-requires
 write-requires c κs = search needs
 
+of-number-requires-2 : tie.Need-of-number-requires-2
+of-number-requires-2 c κs = search needs
+
 enum-told-8 : tie.Need-enum-told-8
 enum-told-8 c = search needs
 
 cut-requires : tie.Need-cut-requires
 cut-requires c κs = search needs
+
+of-number-requires-3 : tie.Need-of-number-requires-3
+of-number-requires-3 c κs = search needs
 
 enum-told-9 : tie.Need-enum-told-9
 enum-told-9 c = search needs
@@ -62,33 +86,36 @@ enum-told-9 c = search needs
 delete-requires : tie.Need-delete-requires
 delete-requires c κs = search needs
 
+of-number-requires-4 : tie.Need-of-number-requires-4
+of-number-requires-4 c κs = search needs
+
 same-length : tie.Need-same-length
 same-length c = search needs
 
 returns : tie.Need-returns
 unfolding callOf lent
-returns c = rw (c .before .before .enum-told .given .1) (happens (c .check .ensures) _ _ refl)
+returns c = let k = c .before in rw (k .before .before .enum-told .given .1, c .of-check .ensures) (happens (k .check .ensures) refl)
 
 same-length-2 : tie.Need-same-length-2
 same-length-2 c = search needs
 
 returns-2 : tie.Need-returns-2
 unfolding callOf lent
-returns-2 c = rw (c .before .before .enum-told2 .given .1) (happens (c .entry .ensures) _ _ refl)
+returns-2 c = let k = c .before in rw (k .before .before .enum-told2 .given .1, c .of-entry .ensures) (happens (k .entry .ensures) refl)
 
 same-length-3 : tie.Need-same-length-3
 same-length-3 c = search needs
 
 returns-3 : tie.Need-returns-3
 unfolding callOf lent
-returns-3 c = rw (c .before .before .enum-told3 .given .1) (happens (c .find .ensures) _ _ refl)
+returns-3 c = let k = c .before in rw (k .before .before .enum-told3 .given .1, c .of-find .ensures) (happens (k .find .ensures) refl)
 
 same-length-4 : tie.Need-same-length-4
 same-length-4 c = search needs
 
 returns-4 : tie.Need-returns-4
 unfolding callOf lent
-returns-4 c = rw (c .before .before .enum-told4 .given .1) (happens (c .block .ensures) _ _ refl)
+returns-4 c = let k = c .before in rw (k .before .before .enum-told4 .given .1, c .of-block .ensures) (happens (k .block .ensures) refl)
 
 same-length-5 : tie.Need-same-length-5
 same-length-5 c = search needs
@@ -97,51 +124,39 @@ same-length-6 : tie.Need-same-length-6
 same-length-6 c = search needs
 
 returns-5 : tie.Need-returns-5
-unfolding callOf lent
+unfolding callOf
 returns-5 c =
-    let k = c .before .before in
-    let b = now (k .before .before .before .before .before .before .before .before .before .args .buffer) in
-    rw (k .before .before .before .enum-told5 .given .1) (happens (k .read .ensures) b _ (lent-whole b _))
+    let k = c .before .before .before in
+    let e = k .before .before .before in
+    rw (e .enum-told5 .given .1, c .of-read .ensures) (read-happens (now (e .before .before .before .before .before .before .args .buffer)) (same-length-6 c) (k .read .ensures))
 
 same-length-7 : tie.Need-same-length-7
 same-length-7 c = search needs
 
 returns-6 : tie.Need-returns-6
 unfolding callOf lent only
-returns-6 c =
-    let k = c .before .before in
-    let b = now (k .before .before .before .before .before .before .before .before .args .buffer) in
-    rw (k .before .before .enum-told6 .given .1) (happens (k .create .ensures) b b refl)
+returns-6 c = let k = c .before .before .before in rw (k .before .before .enum-told6 .given .1, c .of-number .ensures) (happens (k .create .ensures) refl)
 
 same-length-8 : tie.Need-same-length-8
 same-length-8 c = search needs
 
 returns-7 : tie.Need-returns-7
 unfolding callOf lent only
-returns-7 c =
-    let k = c .before .before in
-    let b = now (k .before .before .before .before .before .before .before .before .args .buffer) in
-    rw (k .before .before .enum-told7 .given .1) (happens (k .write .ensures) b b refl)
+returns-7 c = let k = c .before .before .before in rw (k .before .before .enum-told7 .given .1, c .of-number2 .ensures) (happens (k .write .ensures) refl)
 
 same-length-9 : tie.Need-same-length-9
 same-length-9 c = search needs
 
 returns-8 : tie.Need-returns-8
 unfolding callOf lent only
-returns-8 c =
-    let k = c .before .before in
-    let b = now (k .before .before .before .before .before .before .before .before .args .buffer) in
-    rw (k .before .before .enum-told8 .given .1) (happens (k .cut .ensures) b b refl)
+returns-8 c = let k = c .before .before .before in rw (k .before .before .enum-told8 .given .1, c .of-number3 .ensures) (happens (k .cut .ensures) refl)
 
 same-length-10 : tie.Need-same-length-10
 same-length-10 c = search needs
 
 returns-9 : tie.Need-returns-9
 unfolding callOf lent only
-returns-9 c =
-    let k = c .before .before in
-    let b = now (k .before .before .before .before .before .before .before .before .args .buffer) in
-    rw (k .before .before .enum-told9 .given .1) (happens (k .delete .ensures) b b refl)
+returns-9 c = let k = c .before .before .before in rw (k .before .before .enum-told9 .given .1, c .of-number4 .ensures) (happens (k .delete .ensures) refl)
 
 pub one-of-nine-spec : {M : Type 1} → statement M
 one-of-nine-spec =
@@ -149,22 +164,31 @@ one-of-nine-spec =
     (tie.spec
     enum-told
     check-requires
+    of-check-requires
     enum-told-2
     entry-requires
+    of-entry-requires
     enum-told-3
     find-requires
+    of-find-requires
     enum-told-4
     block-requires
+    of-block-requires
     enum-told-5
     read-requires
+    of-read-requires
     enum-told-6
     create-requires
+    of-number-requires
     enum-told-7
     write-requires
+    of-number-requires-2
     enum-told-8
     cut-requires
+    of-number-requires-3
     enum-told-9
     delete-requires
+    of-number-requires-4
     same-length
     returns
     same-length-2
