@@ -312,7 +312,7 @@ following (create name finder created changed) = alters
     })
     (λ image. [])
     neverFull
--- A write gets 17 exactly when it needs more new blocks than are free.
+-- A write that passes the checks before 17 gets 17 exactly when it needs more new blocks than are free.
 following (write name fork offset bytes changed) = alters
     (λ h. record { facts = h .facts; files = map (onCalled name (changedFork fork (writes (A (h .facts)) offset bytes) changed)) (h .files) })
     (λ image. blocksNamed image name fork)
@@ -428,7 +428,7 @@ pub record OnlyNamed (call : Call) (image left : List ℕ) : Type 0 where
 
 -- ---- Refusal 17
 
--- A write gets 17 exactly when it needs more new blocks than are free; no other call gets 17.
+-- A write that passes the checks before 17 gets 17 exactly when it needs more new blocks than are free; no other call gets 17.
 unfoldable pub RoomRule : History → Call → ℕ → Type 0
 RoomRule h call number = following call .room h number
 

@@ -272,7 +272,7 @@ tellsBytes bytes o buffer = record {
 -- one clause for each call in `meaning`: its arguments, its refusals after 1 to 10, and what it answers and leaves where it is
 -- not refused
 pub record Meaning : Type 1 where
-  -- the name and the fork that it is given
+  -- the name and the fork that it is given; [] and Data where it is given none
   pub name : List ℕ
   pub fork : Fork
   -- the buffer that is lent to it
