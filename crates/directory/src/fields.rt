@@ -12,6 +12,7 @@ use model::Fork;
 use model::ForkFacts;
 use model::be16_at;
 use model::be32_at;
+use model::copy_part;
 
 // The file number.
 pub fn number_of(image: &[u8], e: EntryAt) -> u32
@@ -43,24 +44,12 @@ fn fork_at(image: &[u8], at: usize) -> ForkFacts
     }
 }
 
-// Fills a buffer with the bytes from a place on.
-fn copy(image: &[u8], at: usize, to: &mut [u8])
-    requires { ⌜ at + length (now to) ≤ length (now image) ⌝ }
-    ensures { λ _. ⌜ now (to .exit) ≡ part at (length (now (to .entry))) (now (image .entry)) ⌝ }
-{
-    let mut i = 0;
-    while i < to.len() {
-        to[i] = image[at + i];
-        i += 1;
-    }
-}
-
 fn finder_at(image: &[u8], at: usize) -> [u8; 16]
     requires { ⌜ at + 16 ≤ length (now image) ⌝ }
     ensures { λ r. ⌜ r ≡ part at 16 (now (image .entry)) ⌝ }
 {
     let mut finder = [0; 16];
-    copy(image, at, &mut finder);
+    copy_part(image, at, &mut finder, 0, 16);
     finder
 }
 
@@ -70,7 +59,7 @@ fn name_at(image: &[u8], at: usize, count: usize) -> [u8; 255]
     ensures { λ r. ⌜ r ≡ wide (part at count (now (image .entry))) ⌝ }
 {
     let mut name = [0; EntryAt::MOST_NAME];
-    copy(image, at, &mut name[..count]);
+    copy_part(image, at, &mut name, 0, count);
     name
 }
 

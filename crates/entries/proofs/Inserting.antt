@@ -1,24 +1,18 @@
 -- Laws of a new entry's stores, one right behind the other.
-use Prim.Native.Nat.{ℕ, zero, suc, _+_, _-_, _%_, _≤_, _<_}
+use Prim.Native.Nat.{ℕ, zero, suc, _+_, _-_, _%_, _≤_}
 use mathlib.Core.Path.{_≡_, refl, sym, ap, _∙_}
 use mathlib.Core.List.{List, [], _∷_, _++_, append-assoc}
 use native.Mathlib.Omega.{arith}
 use native.Mathlib.Nat.{add-zero, suc-add, zero-add}
-use native.Mathlib.Numerals.{add-one}
 use lib.ListN.{length, set, length-append, length-replicate}
-use lib.Seq.{sets, sets-eq, paste, paste-suc, length-paste, take-length}
-use Rattle.model.specs.Bytes.{byte, u16, u32, zeros, part}
+use lib.Seq.{sets, sets-eq, paste, length-paste, take-length}
+use Rattle.model.specs.Bytes.{u16, u32, zeros, part}
 use Rattle.model.specs.Directory.{padded, entries, readEnd}
 use Rattle.model.specs.Calls.{newEntry, filled}
 use Rattle.laws.proofs.Entry.{new-length}
 use Rattle.entries.specs.Blocks.{Block}
 use Rattle.entries.proofs.Blocks.{paste-next}
 use Rattle.entries.proofs.Rooming.{added-stores}
-
--- one byte more
-pub put-byte : (d : List ℕ) (at : ℕ) (s : List ℕ) (i : ℕ) → at + i < length d → i < length s
-    → set (paste d at s i) (at + i) (byte s i) ≡ paste d at s (i + 1)
-put-byte d at s i h l = rw add-one (paste-suc d at s i 0 h l)
 
 -- ---- parts stored one right behind the other
 

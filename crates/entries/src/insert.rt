@@ -17,6 +17,7 @@ use crate::remove::clear;
 use crate::remove::read_end;
 use directory::Cursor;
 use directory::EntryAt;
+use model::copy_part;
 
 // The first directory block, from a cursor at a block's start on, that has room for so many bytes.
 pub fn find_room(image: &[u8], from: Cursor, size: usize) -> Space
@@ -42,11 +43,7 @@ fn put_bytes(image: &mut [u8], at: usize, bytes: &[u8])
     requires { ⌜ at + length (now bytes) ≤ length (now image) ⌝ }
     ensures { λ _. ⌜ now (image .exit) ≡ paste (now (image .entry)) at (now (bytes .entry)) (length (now (bytes .entry))) ⌝ }
 {
-    let mut i = 0;
-    while i < bytes.len() {
-        image[at + i] = bytes[i];
-        i += 1;
-    }
+    copy_part(bytes, 0, image, at, bytes.len());
 }
 
 // Puts the entry of an empty file behind the last one of the directory block at byte base, whose reading ends at place end. Zeros

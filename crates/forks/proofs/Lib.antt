@@ -1,4 +1,3 @@
-pub mod Moves
 pub mod Copying
 pub mod Filling
 pub mod Growing

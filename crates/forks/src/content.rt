@@ -7,10 +7,10 @@ ghost use Rattle.model.specs.Bytes.{part};
 ghost use Rattle.model.specs.Calls.{forkBytes, putContent, readCount, copied};
 ghost use Rattle.model.specs.Map.{mapEntry, chainBlocks};
 ghost use Rattle.forks.specs.Content.{Copyable, Fillable};
-use crate::moving::copy_part;
 use model::AllocationBlock;
 use model::ForkFacts;
 use model::LogicalBlock;
+use model::copy_part;
 
 fn smaller(a: usize, b: usize) -> usize
     ensures { λ r. ⌜ r ≡ min a b ⌝ }

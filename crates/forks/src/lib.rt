@@ -1,7 +1,6 @@
 // The bytes of a fork, block by block, the blocks that a fork has, and those that it needs.
 mod content;
 mod growth;
-mod moving;
 
 pub use content::copy_fork;
 pub use content::fill_fork;

@@ -1,4 +1,5 @@
 pub mod Bytes
+pub mod Copies
 pub mod Facts
 pub mod Lists
 pub mod Times

@@ -6,6 +6,7 @@ ghost use Rattle.model.specs.Bytes.{part};
 ghost use Rattle.model.specs.Facts.{factsOf};
 use crate::LogicalBlock;
 use crate::VolumeFacts;
+use crate::copying::copy_part;
 use crate::numbers::be16_at;
 use crate::numbers::be32_at;
 
@@ -15,11 +16,7 @@ fn name_at(s: &[u8], at: usize) -> [u8; 27]
     ensures { λ r. ⌜ r ≡ part at 27 (now (s .entry)) ⌝ }
 {
     let mut name = [0; VolumeFacts::MOST_NAME];
-    let mut i = 0;
-    while i < VolumeFacts::MOST_NAME {
-        name[i] = s[at + i];
-        i += 1;
-    }
+    copy_part(s, at, &mut name, 0, VolumeFacts::MOST_NAME);
     name
 }
 

@@ -4,10 +4,11 @@ use mathlib.Core.Path.{_≡_, refl, ap, subst, _∙_}
 use native.Mathlib.Omega.{arith}
 use lib.ListN.{length, set, take, drop, length-set, length-replicate}
 use lib.Seq.{paste, paste-zero}
 use Rattle.model.specs.Bytes.{byte}
-use Rattle.forks.proofs.Moves.{hold-byte, move-byte, paste-same}
-use Rattle.forks.proofs.moving.move_bytes.Statement.{statement}
-use Rattle.forks.proofs.moving.move_bytes.Tie as tie
+use Rattle.model.proofs.Copies.{move-byte, paste-same}
+use Rattle.model.proofs.Bytes.{copy-next}
+use Rattle.model.proofs.copying.move_bytes.Statement.{statement}
+use Rattle.model.proofs.copying.move_bytes.Tie as tie
 
 abbrev Inv-loop : tie.InvT-loop
 Inv-loop image from buffer to n held₀ i₀ held i = (i ≤ n) × (length held ≡ 1024) × (take i held ≡ take i (drop from image))
@@ -45,7 +46,7 @@ loop-again c =
     let l = c .before .before .loop in (
       omega arith,
       length-set (l .held) (l .i) (byte (a .image .now) (a .from + l .i)) ∙ l .inv .1,
-      hold-byte (l .held) (a .image .now) (a .from) (l .i) (omega arith) (omega arith) (l .inv .2),
+      copy-next (a .image .now) (l .held) (a .from) (l .i) (omega arith) (omega arith) (l .inv .2),
     )
 
 loop2-holds : tie.Need-loop2-holds Inv-loop μ-loop Inv-loop2 μ-loop2

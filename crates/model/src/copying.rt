@@ -1,4 +1,4 @@
-// Bytes moved from one slice to another.
+// Bytes copied from one slice to another.
 ghost use mathlib.Core.Path.{_≡_};
 ghost use Prim.Native.Nat.{_+_, _≤_};
 ghost use lib.ListN.{length, drop};

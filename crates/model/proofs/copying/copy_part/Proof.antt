@@ -5,9 +5,9 @@ use native.Mathlib.Omega.{arith}
 use denote.Ref.{now}
 use lib.ListN.{length, drop}
 use lib.Seq.{paste, paste-zero}
-use Rattle.forks.proofs.Moves.{copy-more}
-use Rattle.forks.proofs.moving.copy_part.Statement.{statement}
-use Rattle.forks.proofs.moving.copy_part.Tie as tie
+use Rattle.model.proofs.Copies.{copy-more}
+use Rattle.model.proofs.copying.copy_part.Statement.{statement}
+use Rattle.model.proofs.copying.copy_part.Tie as tie
 
 abbrev Inv-loop : tie.InvT-loop
 Inv-loop image from buffer₀ to n i₀ buffer i =
