@@ -1,11 +1,12 @@
 -- The further worked cases hold: antt computes them.
+use mathlib.Core.Path.{refl}
 use Rattle.model.specs.Cases.{AllRight, end, _&_}
 use Rattle.model.proofs.Cases.{everything, row}
-use Rattle.cases.specs.More.{badVolumes, readings, changings, MoreCases}
+use Rattle.cases.specs.More.{badVolumes, readings, changings, orders, borderDisk, foldings, sampled, wideDisk, wideGrown, contents, limited, Limits, MoreCases}
 
 bad-volumes : AllRight badVolumes
 unfolding everything badVolumes
-bad-volumes = row & row & row & row & row & row & row & row & row & row & row & row & row & row & row & row & row & row & row & row & row & row & row & row & row & row & row & end
+bad-volumes = row & row & row & row & row & row & row & row & row & row & row & row & row & row & row & row & row & row & row & row & row & row & row & row & row & row & row & row & row & row & row & row & end
 
 all-readings : AllRight readings
 unfolding everything readings
@@ -13,8 +14,24 @@ all-readings = row & row & row & row & row & row & row & row & row & row & row &
 
 all-changings : AllRight changings
 unfolding everything changings
-all-changings = row & row & row & row & row & row & row & row & row & row & row & row & row & row & row & row & row & row & end
+all-changings = row & row & row & row & row & row & row & row & row & row & row & row & row & row & row & row & row & row & row & end
+
+all-orders : AllRight orders
+unfolding everything orders
+all-orders = row & row & row & row & row & row & row & row & row & row & row & end
+
+all-foldings : AllRight foldings
+unfolding everything borderDisk foldings
+all-foldings = row & row & row & row & row & row & end
+
+all-contents : AllRight contents
+unfolding everything sampled wideDisk wideGrown contents
+all-contents = row & row & row & row & row & row & row & row & end
+
+limits : Limits
+unfolding everything limited Limits
+limits = (refl, refl, refl, refl, refl, refl, refl, refl)
 
 pub more : MoreCases
 unfolding MoreCases
-more = (bad-volumes, all-readings, all-changings)
+more = (bad-volumes, all-readings, all-changings, all-orders, all-foldings, all-contents, limits)

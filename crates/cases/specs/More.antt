@@ -1,11 +1,15 @@
 -- More worked cases: each is computed from the definitions, and its whole answer and image are compared.
-use Prim.Native.Nat.{ℕ}
+use Prim.Native.Nat.{ℕ, _*_}
+use mathlib.Core.Path.{_≡_}
+use mathlib.Core.Bool.{Bool, true, false}
 use mathlib.Core.List.{List, [], _∷_, _++_}
 use lib.ListN.{replicate}
 use Rattle.model.specs.Bytes.{u16, u32, zeros}
+use Rattle.model.specs.Facts.{factsIn}
+use Rattle.model.specs.Check.{fires1, fires3}
 use Rattle.model.specs.Calls.{only, tellsFacts, tellsEntry, tellsBlock}
 use Rattle.model.specs.Calls.Call.{check, entry, find, block, read, create, write, cut, delete}
-use Rattle.model.specs.Cases.{Row, AllRight, bad, refused, forkBytesOf, entryBytes, WEEK1, week1, RATES, NEWS, ratesEntry, hall, withBytes, withWeek1, sample, weekFacts, hallFacts, ratesFacts, newsEntry, staleDisk, deadDisk, fullWeek, roomyDisk, longName, longDisk, twoBlocks, tellsRead, longFacts}
+use Rattle.model.specs.Cases.{Row, AllRight, bad, refused, info, disk, forkBytesOf, entryBytes, WEEK1, week1, RATES, NEWS, ratesEntry, hall, withBytes, withWeek1, sample, weekFacts, hallFacts, ratesFacts, newsEntry, staleDisk, deadDisk, fullWeek, resourceDisk, roomyDisk, longName, longDisk, twoBlocks, tellsRead, longFacts}
 use Rattle.model.specs.Cases.Row.{does}
 use Rattle.model.specs.declared.Fork.the-variants.{Data, Resource}
 
@@ -18,10 +22,12 @@ badVolumes =
     ∷ bad 1 (zeros 4097)
     ∷ bad 2 (zeros 4096)
     ∷ bad 2 (withBytes 1025 (0xd6 ∷ []) hall)
-    ∷ bad 3 (withBytes 1045 (0x00 ∷ 0x02 ∷ 0x01 ∷ []) hall)
+    ∷ bad 3 (withBytes 1044 (u32 513) hall)
+    ∷ bad 3 (withBytes 1044 (u32 0) hall)
     ∷ bad 3 (withBytes 1042 (u16 0) hall)
     ∷ bad 3 (withBytes 1042 (u16 6) hall)
     ∷ bad 3 (withBytes 1038 (u16 3) hall)
+    ∷ bad 3 (withBytes 1040 (u16 0) hall)
     ∷ bad 3 (withBytes 1040 (u16 2) hall)
     ∷ bad 3 (withBytes 1054 (u32 0) hall)
     ∷ bad 4 (withBytes 1060 (28 ∷ []) hall)
@@ -36,11 +42,15 @@ badVolumes =
     ∷ bad 7 (withBytes 2122 (u32 0) hall)
     ∷ bad 7 (withBytes 2122 (u32 1) hall)
     ∷ bad 7 (withBytes 2122 (u32 3) hall)
-    -- 8: start 0 and a length; start 1; above N + 1; no multiple of A; logical above physical; a chain too long or too short
+    -- 8: start 0 and both lengths, or the logical, or the physical alone
     ∷ bad 8 (withBytes 2070 (u16 0) hall)
+    ∷ bad 8 (withBytes 2080 (forkBytesOf 0 1 0) hall)
+    ∷ bad 8 (withBytes 2080 (forkBytesOf 0 0 512) hall)
+    -- 8: physical length 0; start 1; above N + 1; no multiple of A; logical above physical; a chain too short or too long
+    ∷ bad 8 (withBytes 2080 (forkBytesOf 1 0 0) hall)
     ∷ bad 8 (withBytes 2070 (u16 1) hall)
     ∷ bad 8 (withBytes 2070 (u16 7) hall)
-    ∷ bad 8 (withBytes 2076 (u32 1023) hall)
+    ∷ bad 8 (withBytes 2076 (u32 1025) hall)
     ∷ bad 8 (withBytes 2072 (u32 1025) hall)
     ∷ bad 8 (withBytes 2076 (u32 1536) hall)
     ∷ bad 8 (withBytes 2070 (forkBytesOf 2 500 512) hall)
@@ -52,14 +62,14 @@ readings =
     -- what is not judged: dead space
     does hall check (tellsFacts hallFacts) hall
     ∷ does deadDisk check (tellsFacts hallFacts) deadDisk
-    -- entry, find, block
+    -- entry, find, block; a volume name of 27 passes
     ∷ does hall (entry 0) (tellsEntry 0 weekFacts) hall
     ∷ refused 13 (entry 2) hall
     ∷ does hall (find RATES) (tellsEntry 1 ratesFacts) hall
     ∷ refused 12 (find []) hall
     ∷ refused 12 (find (longName 65 256)) hall
     ∷ refused 13 (find NEWS) hall
-    ∷ does hall (block WEEK1 Data 1) (tellsBlock 4) hall
+    ∷ does (withBytes 1060 (27 ∷ []) hall) (block WEEK1 Data 1) (tellsBlock 4) (withBytes 1060 (27 ∷ []) hall)
     ∷ refused 16 (block WEEK1 Data 2) hall
     ∷ refused 16 (block WEEK1 Resource 0) hall
     -- read across two blocks, at the end and beyond it
@@ -71,12 +81,15 @@ readings =
 -- the calls that change
 unfoldable pub changings : List Row
 changings =
-    -- create: behind the last entry, into an earlier block that has room again, into the next where it has not
+    -- create: behind the last entry, into an earlier block that has room, also to its last byte, into the next where it has not
     does hall (create NEWS (sample 0 16) 7 8) (only 0 [])
     (withBytes 1036 (u16 3) (withBytes 1054 (u32 4) (withBytes 2162 (sample 0 16)
     (withBytes 2160 (newsEntry 3 0) hall))))
     ∷ does twoBlocks (create NEWS (zeros 16) 7 8) (only 0 [])
     (withBytes 1036 (u16 3) (withBytes 1054 (u32 4) (withBytes 2354 (newsEntry 3 0) twoBlocks)))
+    ∷ does twoBlocks (create (longName 67 155) (zeros 16) 7 8) (only 0 [])
+    (withBytes 1036 (u16 3) (withBytes 1054 (u32 4)
+    (withBytes 2354 (entryBytes 0x80 3 (zeros 10) (zeros 10) 7 8 (longName 67 155) []) twoBlocks)))
     ∷ does twoBlocks (create (longName 67 157) (zeros 16) 7 8) (only 0 [])
     (withBytes 1036 (u16 3) (withBytes 1054 (u32 4)
     (withBytes 2616 (entryBytes 0x80 3 (zeros 10) (zeros 10) 7 8 (longName 67 157) []) twoBlocks)))
@@ -108,5 +121,118 @@ changings =
     ∷ refused 13 (delete NEWS) hall
     ∷ []
 
+-- two faults: the first in document 01's order is the answer
+unfoldable pub orders : List Row
+orders =
+    -- 3 before 4 .. 7 before 8, 9 before 10
+    bad 3 (withBytes 1042 (u16 0) (withBytes 1060 (28 ∷ []) hall))
+    ∷ bad 4 (withBytes 1060 (28 ∷ []) (withBytes 1093 (0x07 ∷ []) hall))
+    ∷ bad 5 (withBytes 1093 (0x07 ∷ []) (withBytes 2049 (1 ∷ []) hall))
+    ∷ bad 6 (withBytes 2049 (1 ∷ []) (withBytes 1036 (u16 3) hall))
+    ∷ bad 7 (withBytes 1036 (u16 3) (withBytes 2070 (u16 1) hall))
+    ∷ bad 9 (withBytes 1093 (0x01 ∷ []) hall)
+    -- create 11 before 12, 14 before 19; write 15 before 16, 16 before 17; delete 15
+    ∷ refused 11 (create [] (zeros 16) 7 8) (withBytes 1034 (u16 0x0080) hall)
+    ∷ refused 14 (create week1 (zeros 16) 7 8) (withBytes 1054 (u32 4294967295) hall)
+    ∷ refused 15 (write WEEK1 Data 701 [] 9) (withBytes 2048 (0x81 ∷ []) hall)
+    ∷ refused 16 (write WEEK1 Data 701 (sample 0 1349) 9) hall
+    ∷ refused 15 (delete WEEK1) (withBytes 2048 (0x81 ∷ []) hall)
+    ∷ []
+
+-- HALL with a name of letters, a to z's first and last, and of bytes that are none: AZ@[ and 80 hex
+unfoldable pub borderDisk : List ℕ
+borderDisk = withBytes 2099 (65 ∷ 90 ∷ 64 ∷ 91 ∷ 0x80 ∷ []) hall
+
+-- a to z equal A to Z, every other byte equals only itself
+unfoldable pub foldings : List Row
+foldings =
+    -- az@[ is found; with ` for @, { for [, A0 and 8A hex for 80 it is not
+    does borderDisk (block (97 ∷ 122 ∷ 64 ∷ 91 ∷ 0x80 ∷ []) Data 1) (tellsBlock 4) borderDisk
+    ∷ refused 13 (find (65 ∷ 90 ∷ 96 ∷ 91 ∷ 0x80 ∷ [])) borderDisk
+    ∷ refused 13 (find (65 ∷ 90 ∷ 64 ∷ 123 ∷ 0x80 ∷ [])) borderDisk
+    ∷ refused 13 (find (65 ∷ 90 ∷ 64 ∷ 91 ∷ 0xa0 ∷ [])) borderDisk
+    ∷ refused 13 (find (65 ∷ 90 ∷ 64 ∷ 91 ∷ 0x8a ∷ [])) borderDisk
+    -- 11 hex for the 1 of WEEK1
+    ∷ refused 13 (find (87 ∷ 69 ∷ 69 ∷ 75 ∷ 0x11 ∷ [])) hall
+    ∷ []
+
+-- a disk of that kind with bytes in its boot blocks, the first file's Finder information, the allocation blocks and the last
+-- two blocks
+unfoldable pub sampled : List ℕ → List ℕ
+sampled image = withBytes 0 (sample 0 1024) (withBytes 2050 (sample 0 16) (withBytes 2560 (sample 0 3584) image))
+
+-- A = 1,024 and N = 2: WEEK1 has 1,000 data bytes in block 3
+unfoldable pub wideDisk : List ℕ
+wideDisk =
+    sampled
+    (withBytes 1042 (u16 2 ++ u32 1024)
+    (disk
+    (record {
+      attributes = 0;
+      files = 1;
+      dirLength = 1;
+      next = 2;
+      free = 1;
+      map = 0 ∷ 0 ∷ 1 ∷ [];
+      directory = entryBytes 0x80 1 (forkBytesOf 3 1000 1024) (zeros 10) 7 8 WEEK1 [];
+    })))
+
+-- the same with 100 bytes more, the last 76 in block 2
+unfoldable pub wideGrown : List ℕ
+wideGrown =
+    withBytes 1058 (u16 0) (withBytes 1088 (0x00 ∷ 0x10 ∷ 0x02 ∷ [])
+    (withWeek1 3 1100 2048 9 (withBytes 4584 (sample 7 24) (withBytes 2560 (sample 31 76) wideDisk))))
+
+-- what stays where the blocks hold bytes, and blocks of another size
+unfoldable pub contents : List Row
+contents =
+    -- write keeps the fork's bytes before and behind, and those of a new block beyond the written ones
+    does (sampled hall) (write WEEK1 Data 100 (zeros 3) 9) (only 0 [])
+    (withBytes 2094 (u32 9) (withBytes 2660 (zeros 3) (sampled hall)))
+    ∷ does (sampled hall) (write WEEK1 Data 700 (zeros 400) 9) (only 0 [])
+    (withBytes 1058 (u16 1) (withBytes 1088 (0x00 ∷ 0x40 ∷ 0x01 ∷ 0x00 ∷ 0x50 ∷ 0x01 ∷ [])
+    (withWeek1 2 1100 1536 9 (withBytes 3772 (zeros 324) (withBytes 4096 (zeros 76) (sampled hall))))))
+    -- cut and delete keep the bytes of the blocks that become free
+    ∷ does (sampled hall) (cut WEEK1 Data 100 9) (only 0 [])
+    (withBytes 1058 (u16 3) (withBytes 1088 (0x00 ∷ 0x10 ∷ 0x01 ∷ 0x00 ∷ 0x00 ∷ []) (withWeek1 2 100 512 9 (sampled hall))))
+    ∷ does (sampled resourceDisk) (delete RATES) (only 0 [])
+    (withBytes 1036 (u16 1) (withBytes 1058 (u16 3) (withBytes 1088 (0x00 ∷ 0x40 ∷ 0x00 ∷ 0x00 ∷ 0x10 ∷ 0x00 ∷ [])
+    (withBytes 2104 (zeros 456) (sampled resourceDisk)))))
+    -- A = 1,024: write, block, read and cut over two blocks
+    ∷ does wideDisk (write WEEK1 Data 1000 (sample 7 100) 9) (only 0 []) wideGrown
+    ∷ does wideGrown (block WEEK1 Data 1) (tellsBlock 2) wideGrown
+    ∷ does wideGrown (read WEEK1 Data 990 (zeros 120)) (tellsRead 110 (sample 2014 10 ++ (sample 7 100 ++ zeros 10))) wideGrown
+    ∷ does wideGrown (cut WEEK1 Data 1024 9) (only 0 [])
+    (withBytes 1058 (u16 1) (withBytes 1088 (0x00 ∷ 0x00 ∷ 0x01 ∷ []) (withWeek1 3 1024 1024 9 wideGrown)))
+    ∷ []
+
+-- check 3 on an image of 65,535 blocks with these N, A and directory length
+unfoldable pub limited : ℕ → ℕ → ℕ → Bool
+limited n a dirLength =
+    fires3
+    (factsIn
+    (withBytes 18 (u16 n ++ u32 a)
+    (info (record { attributes = 0; files = 0; dirLength = dirLength; next = 1; free = 0; map = []; directory = [] }))))
+    65535
+
+-- the most that checks 1 and 3 let pass, and more; the images would be long, so none is computed
+unfoldable pub Limits : Type 0
+Limits =
+    (fires1 (512 * 65535) ≡ false)
+    × (fires1 (512 * 65536) ≡ true)
+    × (limited 640 512 1 ≡ false)
+    × (limited 641 512 1 ≡ true)
+    × (limited 1 32768 1 ≡ false)
+    × (limited 1 33280 1 ≡ true)
+    × (limited 1 512 256 ≡ false)
+    × (limited 1 512 257 ≡ true)
+
 unfoldable pub MoreCases : Type 0
-MoreCases = AllRight badVolumes × AllRight readings × AllRight changings
+MoreCases =
+    AllRight badVolumes
+    × AllRight readings
+    × AllRight changings
+    × AllRight orders
+    × AllRight foldings
+    × AllRight contents
+    × Limits

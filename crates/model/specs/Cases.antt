@@ -19,7 +19,7 @@ use Rattle.model.specs.declared.Fork.the-variants.{Data, Resource}
 
 -- ---- Disks of N = 5 allocation blocks of 512 bytes, named HALL
 
--- the numbers in which they differ, the map's first 8 bytes, the directory blocks' bytes
+-- the numbers in which they differ, the map's first bytes, the directory blocks' bytes
 pub record Plan : Type 0 where
   pub attributes : ℕ
   pub files : ℕ
@@ -121,7 +121,7 @@ pub data Row : Type 0 where
   equal : (image other : List ℕ) → Row
   -- a call on an image, its whole answer and the whole image that it leaves
   does : (image : List ℕ) (call : Call) (given : Answer) (left : List ℕ) → Row
-  -- every 800-block image of so many allocation blocks passes check 3, or gets 3
+  -- every 800-block image with that volume information, so many being its allocation blocks, passes check 3, or gets 3
   passes3 : (n : ℕ) → Row
   gives3 : (n : ℕ) → Row
 
@@ -294,7 +294,7 @@ longDisk n =
           ++ entryBytes 0xff 2 (zeros 10) (zeros 10) 7 8 (longName 66 n) [];
     })
 
--- two directory blocks: the first full but for 100 bytes, the second with RATES; S is 6
+-- two directory blocks: the first full but for 206 bytes, the second with RATES; S is 6
 unfoldable pub twoBlocks : List ℕ
 twoBlocks =
     disk
