@@ -33,7 +33,7 @@ use Rattle.files.proofs.Lookups.{some-block, first-passes}
 -- ---- the entry put in
 
 module _ {f : VolumeFacts} {image : List ℕ} (r : Readable f image) where
-  dir-within : 512 * dirStart f + 512 * dirLength f ≤ length image
+  dir-within : 512 * dirStart f .0 + 512 * dirLength f ≤ length image
   dir-within = rw (r .facts) (readable-of image (r .accepted) .within)
 
   dir-clean : Cleans (directoryBlocks f image)
@@ -45,12 +45,12 @@ module _ {f : VolumeFacts} {image : List ℕ} (r : Readable f image) where
 
   module _ (title base end : ℕ) (a : Adds f image title base end) where
     abbrev first : Cursor
-    first = record { base = 512 * dirStart f; at = 0; left = dirLength f - 1 }
+    first = record { base = 512 * dirStart f .0; at = 0; left = dirLength f - 1 }
 
-    first-begins : Begins (dirStart f) (dirLength f) first
+    first-begins : Begins (dirStart f .0) (dirLength f) first
     first-begins =
         let some = some-block r in
-        record { base = refl; at = refl; left = omega arith; rest = λ i. sym (blocks-rest i (dirLength f) (512 * dirStart f) (λ z. omega arith)) }
+        record { base = refl; at = refl; left = omega arith; rest = λ i. sym (blocks-rest i (dirLength f) (512 * dirStart f .0) (λ z. omega arith)) }
 
     pub adds-block : Block image base
     adds-block = rw (a .room .block) (block-of image first (first-passes r first first-begins) refl (a .room .index) (omega (arith, a .room .within, a .count)))
@@ -64,12 +64,12 @@ module _ {f : VolumeFacts} {image : List ℕ} (r : Readable f image) where
     unfolding directoryBlocks any
     adds-some =
         let i = a .room .index in
-        let d = drop (512 * dirStart f) image in
+        let d = drop (512 * dirStart f .0) image in
         let p = hasRoom (padded (51 + title)) in
         let x = cutBlocks i d in
         let b = part (512 * i) 512 d in
         let y = cutBlocks (dirLength f - (i + 1)) (drop (512 * (i + 1)) d) in
-        let own : p b ≡ true = rw (drop-drop (512 * i) (512 * dirStart f) image, ← a .room .block) (a .room .room) in
+        let own : p b ≡ true = rw (drop-drop (512 * i) (512 * dirStart f .0) image, ← a .room .block) (a .room .room) in
         ap (any p) (cut-at i (dirLength f) d (omega (arith, a .room .within, a .count))) ∙ any-append p x (b ∷ y) ∙ rw (a .room .none, own)
 
   -- the three stores
@@ -79,6 +79,6 @@ module _ {f : VolumeFacts} {image : List ℕ} (r : Readable f image) where
   unfolding created
   added name finder made changed base end a whole x y z px py pz =
       let e = newEntry (nextNumber f) name finder made changed in
-      let room : HasRoom image (512 * dirStart f) (a .left) (length e) base end = rw (new-length (nextNumber f) name finder made changed whole) (a .room) in
+      let room : HasRoom image (512 * dirStart f .0) (a .left) (length e) base end = rw (new-length (nextNumber f) name finder made changed whole) (a .room) in
       let put = room-placed f image dir-within dir-clean e (new-sound (nextNumber f) name finder made changed whole (a .some)) (a .left) base end (a .count) room in
       pz ∙ ap (withFiles (f .files + 1)) (py ∙ ap (withNext (nextNumber f + 1)) (px ∙ sym put))

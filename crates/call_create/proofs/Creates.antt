@@ -37,25 +37,25 @@ module _ (image : List ℕ) (start left size : ℕ) (s : Space) (h : Roomy image
   pub room-none : s ≡ Nothing → any (hasRoom size) (cutBlocks (left + 1) (drop start image)) ≡ false
   room-none p = rw p at h
 
-module _ (f : VolumeFacts) (image : List ℕ) (c : Cursor) (b : Begins (dirStart f) (dirLength f) c) (title size : ℕ) (q : size ≡ padded (51 + title)) where
+module _ (f : VolumeFacts) (image : List ℕ) (c : Cursor) (b : Begins (dirStart f .0) (dirLength f) c) (title size : ℕ) (q : size ≡ padded (51 + title)) where
   pub adds : (base end : ℕ) → HasRoom image (c .base) (c .left) size base end → 1 ≤ title → title ≤ 255 → nextNumber f < 4294967295 → Adds f image title base end
   adds base end h s m n = record {
     left = c .left;
     count = b .left;
     some = s;
     most = m;
-    room = subst (λ (k : ℕ). HasRoom image (512 * dirStart f) (c .left) k base end) q (subst (λ (k : ℕ). HasRoom image k (c .left) size base end) (b .base) h);
+    room = subst (λ (k : ℕ). HasRoom image (512 * dirStart f .0) (c .left) k base end) q (subst (λ (k : ℕ). HasRoom image k (c .left) size base end) (b .base) h);
     next = n;
   }
 
   no-room : any (hasRoom size) (cutBlocks (c .left + 1) (drop (c .base) image)) ≡ false → any (hasRoom (padded (51 + title))) (directoryBlocks f image) ≡ false
   unfolding directoryBlocks
   no-room h =
-      let from : any (hasRoom size) (cutBlocks (c .left + 1) (drop (512 * dirStart f) image)) ≡ false
+      let from : any (hasRoom size) (cutBlocks (c .left + 1) (drop (512 * dirStart f .0) image)) ≡ false
       = subst (λ (k : ℕ). any (hasRoom size) (cutBlocks (c .left + 1) (drop k image)) ≡ false) (b .base) h in
-      let all : any (hasRoom size) (cutBlocks (dirLength f) (drop (512 * dirStart f) image)) ≡ false
-      = subst (λ (k : ℕ). any (hasRoom size) (cutBlocks k (drop (512 * dirStart f) image)) ≡ false) (b .left) from in
-      subst (λ (k : ℕ). any (hasRoom k) (cutBlocks (dirLength f) (drop (512 * dirStart f) image)) ≡ false) q all
+      let all : any (hasRoom size) (cutBlocks (dirLength f) (drop (512 * dirStart f .0) image)) ≡ false
+      = subst (λ (k : ℕ). any (hasRoom size) (cutBlocks k (drop (512 * dirStart f .0) image)) ≡ false) (b .left) from in
+      subst (λ (k : ℕ). any (hasRoom k) (cutBlocks (dirLength f) (drop (512 * dirStart f .0) image)) ≡ false) q all
 
 -- ---- the returns
 
@@ -113,7 +113,7 @@ module _ {f : VolumeFacts} {image : List ℕ} (r : Readable f image) (octets : B
           refuse r octets (create name finder made changed) 19 fits (rw (l′, new .good, new .none, eq-eqb (nextNumber (factsOf image)) 4294967295 n′)) (λ z. omega arith)
 
       module _ (n : nextNumber f ≡ 4294967295 → ⊥) where
-        pub create-full : (c : Cursor) → Begins (dirStart f) (dirLength f) c → (size : ℕ) → size ≡ padded (51 + length name)
+        pub create-full : (c : Cursor) → Begins (dirStart f .0) (dirLength f) c → (size : ℕ) → size ≡ padded (51 + length name)
             → any (hasRoom size) (cutBlocks (c .left + 1) (drop (c .base) image)) ≡ false → Does (create name finder made changed) image (toldNumber 18) image
         unfolding refuses knownIn nameOf forkGiven lent
         create-full c b size q h =

@@ -15,7 +15,7 @@ pub record Adds (f : VolumeFacts) (image : List ℕ) (title base end : ℕ) : Ty
   pub count : left + 1 ≡ dirLength f
   pub some : 1 ≤ title
   pub most : title ≤ 255
-  pub room : HasRoom image (512 * dirStart f) left (padded (51 + title)) base end
+  pub room : HasRoom image (512 * dirStart f .0) left (padded (51 + title)) base end
   pub next : nextNumber f < 4294967295
 
 -- the image with the entry of the new file and the counts after it

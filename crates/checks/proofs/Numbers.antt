@@ -120,7 +120,7 @@ directory-passes files next es m d y = else-zero (fires6 es) 5 _ (sym d ∙ y) .
 
 -- ---- the cursor over the directory
 
-module _ (f : VolumeFacts) (image : List ℕ) (e : f ≡ factsOf image) (c : Cursor) (b : Begins (dirStart f) (dirLength f) c) where
+module _ (f : VolumeFacts) (image : List ℕ) (e : f ≡ factsOf image) (c : Cursor) (b : Begins (dirStart f .0) (dirLength f) c) where
   pub rest-directory : restOf image c ≡ directory image
   rest-directory = begins-directory image c (rw e at b)
 
@@ -136,7 +136,7 @@ unfolding factsOf factsIn
 judged image f h e l = record {
   facts = e;
   long = l;
-  directory = rw (ap (λ (g : VolumeFacts). dirStart g) e) (bytes-be16 image 1024 14 h);
+  directory = rw (ap (λ (g : VolumeFacts). dirStart g .0) e) (bytes-be16 image 1024 14 h);
   allocation = rw (ap (λ (g : VolumeFacts). S g .0) e) (bytes-be16 image 1024 28 h);
 }
 

@@ -33,5 +33,5 @@ pub record Mapped (f : VolumeFacts) (image : List ℕ) (c : Cursor) (entries : L
 pub record Judged (f : VolumeFacts) (image : List ℕ) : Type 0 where
   pub facts : f ≡ factsOf image
   pub long : fires1 (length image) ≡ false
-  pub directory : dirStart f < 65536
+  pub directory : dirStart f .0 < 65536
   pub allocation : S f .0 < 65536

@@ -23,29 +23,29 @@ block-at (suc i) (suc k) c h =
     block-at i k (drop 512 c) (omega arith) ∙ ap (take 512) (drop-drop (512 * i) 512 c ∙ ap (λ (j : ℕ). drop j c) a)
 
 module _ (f : VolumeFacts) (image base : List ℕ) (same : directoryBlocks f base ≡ directoryBlocks f image) (e : EntryAt)
-    (l : Lies image (512 * dirStart f) (dirLength f) e) (within : length (flat (l .before)) + padded (51 + e .«name_length») ≤ 512) where
+    (l : Lies image (512 * dirStart f .0) (dirLength f) e) (within : length (flat (l .before)) + padded (51 + e .«name_length») ≤ 512) where
   -- its block
-  block-is : (x : List ℕ) → getD (directoryBlocks f x) (l .index) [] ≡ part (512 * dirStart f + 512 * l .index) 512 x
+  block-is : (x : List ℕ) → getD (directoryBlocks f x) (l .index) [] ≡ part (512 * dirStart f .0 + 512 * l .index) 512 x
   unfolding directoryBlocks
   block-is x =
-      block-at (l .index) (dirLength f) (drop (512 * dirStart f) x) (l .within)
-      ∙ ap (take 512) (drop-drop (512 * l .index) (512 * dirStart f) x)
+      block-at (l .index) (dirLength f) (drop (512 * dirStart f .0) x) (l .within)
+      ∙ ap (take 512) (drop-drop (512 * l .index) (512 * dirStart f .0) x)
 
-  own-same : part (512 * dirStart f + 512 * l .index) 512 base ≡ part (512 * dirStart f + 512 * l .index) 512 image
+  own-same : part (512 * dirStart f .0 + 512 * l .index) 512 base ≡ part (512 * dirStart f .0 + 512 * l .index) 512 image
   own-same = sym (block-is base) ∙ ap (λ (bs : List (List ℕ)). getD bs (l .index) []) same ∙ block-is image
 
   bytes-in : (x : List ℕ)
-      → part (length (flat (l .before))) (padded (51 + e .«name_length»)) (part (512 * dirStart f + 512 * l .index) 512 x) ≡ bytesAt x e
+      → part (length (flat (l .before))) (padded (51 + e .«name_length»)) (part (512 * dirStart f .0 + 512 * l .index) 512 x) ≡ bytesAt x e
   bytes-in x =
       let n = padded (51 + e .«name_length») in
-      part-part x (512 * dirStart f + 512 * l .index) 512 (length (flat (l .before))) n within
+      part-part x (512 * dirStart f .0 + 512 * l .index) 512 (length (flat (l .before))) n within
       ∙ ap (λ (s : ℕ). part s n x) (sym (l .place))
 
   pub bytes-elsewhere : bytesAt base e ≡ bytesAt image e
   bytes-elsewhere =
       sym (bytes-in base) ∙ ap (part (length (flat (l .before))) (padded (51 + e .«name_length»))) own-same ∙ bytes-in image
 
-  pub lies-elsewhere : Lies base (512 * dirStart f) (dirLength f) e
+  pub lies-elsewhere : Lies base (512 * dirStart f .0) (dirLength f) e
   lies-elsewhere = record {
     index = l .index;
     before = l .before;

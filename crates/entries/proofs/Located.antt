@@ -82,33 +82,33 @@ removed-stills name (b ∷ bs) h =
 -- ---- the entry and its block
 
 -- e stands in the directory
-module _ (f : VolumeFacts) (image : List ℕ) (e : EntryAt) (l : Lies image (512 * dirStart f) (dirLength f) e) where
+module _ (f : VolumeFacts) (image : List ℕ) (e : EntryAt) (l : Lies image (512 * dirStart f .0) (dirLength f) e) where
   -- the blocks before its own, its own, and those behind
   abbrev pub ahead : List (List ℕ)
-  ahead = cutBlocks (l .index) (drop (512 * dirStart f) image)
+  ahead = cutBlocks (l .index) (drop (512 * dirStart f .0) image)
 
   abbrev pub own : List ℕ
-  own = part (512 * dirStart f + 512 * l .index) 512 image
+  own = part (512 * dirStart f .0 + 512 * l .index) 512 image
 
   abbrev pub following : List (List ℕ)
-  following = cutBlocks (dirLength f - (l .index + 1)) (drop (512 * (l .index + 1)) (drop (512 * dirStart f) image))
+  following = cutBlocks (dirLength f - (l .index + 1)) (drop (512 * (l .index + 1)) (drop (512 * dirStart f .0) image))
 
   pub blocks-are : directoryBlocks f image ≡ ahead ++ (own ∷ following)
   unfolding directoryBlocks
   blocks-are =
-      cut-at (l .index) (dirLength f) (drop (512 * dirStart f) image) (l .within)
-      ∙ ap (λ (t : List ℕ). ahead ++ (take 512 t ∷ following)) (drop-drop (512 * l .index) (512 * dirStart f) image)
+      cut-at (l .index) (dirLength f) (drop (512 * dirStart f .0) image) (l .within)
+      ∙ ap (λ (t : List ℕ). ahead ++ (take 512 t ∷ following)) (drop-drop (512 * l .index) (512 * dirStart f .0) image)
 
   pub ahead-count : length ahead ≡ l .index
-  ahead-count = cut-count (l .index) (drop (512 * dirStart f) image)
+  ahead-count = cut-count (l .index) (drop (512 * dirStart f .0) image)
 
-  pub start-is : e .start ≡ 512 * (dirStart f + length ahead) + length (flat (l .before))
+  pub start-is : e .start ≡ 512 * (dirStart f .0 + length ahead) + length (flat (l .before))
   start-is = omega (arith, ahead-count, l .place)
 
   -- counted in its own block alone
-  pub lies-block : Lies image (512 * dirStart f + 512 * l .index) 1 e
+  pub lies-block : Lies image (512 * dirStart f .0 + 512 * l .index) 1 e
   lies-block =
-      let same : 512 * dirStart f + 512 * l .index ≡ 512 * dirStart f + 512 * l .index + 512 * 0 = omega arith in
+      let same : 512 * dirStart f .0 + 512 * l .index ≡ 512 * dirStart f .0 + 512 * l .index + 512 * 0 = omega arith in
       record {
         index = 0;
         before = l .before;
@@ -191,7 +191,7 @@ module _ (f : VolumeFacts) (image : List ℕ) (e : EntryAt) (l : Lies image (512
       entry-within = omega (arith, fills own own-clean (l .before) (bytesAt image e) (l .behind) (l .split), used-within own own-clean)
 
       -- the stores of a fork's fields and the change date
-      pub fork-stored : 512 * dirStart f + 512 * dirLength f ≤ length image → (fork : Fork) (a logical : ℕ) (bs : List ℕ) (changed : ℕ)
+      pub fork-stored : 512 * dirStart f .0 + 512 * dirLength f ≤ length image → (fork : Fork) (a logical : ℕ) (bs : List ℕ) (changed : ℕ)
           → sets (sets image (e .start + forkPlace fork) (fields (forkWith a logical bs))) (e .start + 46) (u32 changed)
           ≡ withDirectory f image (rewritten name (withFork fork a logical bs changed) (directoryBlocks f image))
       unfolding withFork
@@ -208,22 +208,22 @@ module _ (f : VolumeFacts) (image : List ℕ) (e : EntryAt) (l : Lies image (512
           = rewritten-stores own own-clean (l .before) (bytesAt image e) (l .behind) (l .split) name g
           (map-unnamed name g (l .before) none-before) (map-unnamed name g (l .behind) none-after)
           i 46 vs ws (omega arith) (omega arith) (on-named name g (bytesAt image e) has) in
-          let first : 512 * (dirStart f + length ahead) + (p + i) ≡ e .start + i = omega (arith, start-is) in
-          let second : 512 * (dirStart f + length ahead) + (p + 46) ≡ e .start + 46 = omega (arith, start-is) in
+          let first : 512 * (dirStart f .0 + length ahead) + (p + i) ≡ e .start + i = omega (arith, start-is) in
+          let second : 512 * (dirStart f .0 + length ahead) + (p + 46) ≡ e .start + 46 = omega (arith, start-is) in
           sym (ap (withDirectory f image) (rewritten-at g ∙ ap (λ (b : List ℕ). ahead ++ (b ∷ following)) block)
           ∙ two-stores f image within ahead own following blocks-are (p + i) (p + 46) vs ws (omega arith) (omega arith)
-          ∙ ap (λ (k : ℕ). sets (sets image k vs) (512 * (dirStart f + length ahead) + (p + 46)) ws) first
+          ∙ ap (λ (k : ℕ). sets (sets image k vs) (512 * (dirStart f .0 + length ahead) + (p + 46)) ws) first
           ∙ ap (λ (k : ℕ). sets (sets image (e .start + i) vs) k ws) second)
 
       -- ---- delete
 
       -- the block, for the code
-      pub own-block : 512 * dirStart f + 512 * dirLength f ≤ length image → Block image (512 * dirStart f + 512 * l .index)
+      pub own-block : 512 * dirStart f .0 + 512 * dirLength f ≤ length image → Block image (512 * dirStart f .0 + 512 * l .index)
       unfolding fires6
       own-block within = record { within = omega (arith, l .within); good = rw (own-clean .good) }
 
       -- its first byte, from the entry's
-      pub own-start : e .start - e .start % 512 ≡ 512 * dirStart f + 512 * l .index
+      pub own-start : e .start - e .start % 512 ≡ 512 * dirStart f .0 + 512 * l .index
       own-start = omega (arith, l .place, entry-within, entry-long)
 
       own-removed : removedIn name own ≡ filled (l .before ++ l .behind)
@@ -242,11 +242,11 @@ module _ (f : VolumeFacts) (image : List ℕ) (e : EntryAt) (l : Lies image (512
           ∙ rw (map-append (removedIn name) ahead (own ∷ following), removed-stills name ahead none-ahead, removed-stills name following none-following, own-removed)
 
       -- what the code leaves is the model's change
-      pub entry-removed : 512 * dirStart f + 512 * dirLength f ≤ length image → (after : List ℕ) → Removes image (512 * dirStart f + 512 * l .index) e after
+      pub entry-removed : 512 * dirStart f .0 + 512 * dirLength f ≤ length image → (after : List ℕ) → Removes image (512 * dirStart f .0 + 512 * l .index) e after
           → after ≡ withDirectory f image (removed name (directoryBlocks f image))
       unfolding lies-block
       entry-removed within after r =
-          let at : 512 * dirStart f + 512 * l .index ≡ 512 * (dirStart f + length ahead) = omega (arith, ahead-count) in
+          let at : 512 * dirStart f .0 + 512 * l .index ≡ 512 * (dirStart f .0 + length ahead) = omega (arith, ahead-count) in
           let short : length (flat (l .before ++ l .behind)) ≤ 512
           = omega (arith, fills own own-clean (l .before) (bytesAt image e) (l .behind) (l .split), used-within own own-clean, length-append (flat (l .before)) (flat (l .behind)), ap (length {A = ℕ}) (flat-append (l .before) (l .behind))) in
           r lies-block ∙ ap (λ (p : ℕ). paste image p (filled (l .before ++ l .behind)) 512) at

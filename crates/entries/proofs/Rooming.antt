@@ -103,20 +103,20 @@ placed-at e (c ∷ x) b y u v =
     rw (s .0, placed) (ap (λ (r : List (List ℕ)). c ∷ r) (placed-at e x b y (s .1) v))
 
 -- the model's change is there
-pub room-placed : (f : VolumeFacts) (image : List ℕ) → 512 * dirStart f + 512 * dirLength f ≤ length image → Cleans (directoryBlocks f image)
-    → (e : List ℕ) → sound e ≡ true → (left base end : ℕ) → left + 1 ≡ dirLength f → HasRoom image (512 * dirStart f) left (length e) base end
+pub room-placed : (f : VolumeFacts) (image : List ℕ) → 512 * dirStart f .0 + 512 * dirLength f ≤ length image → Cleans (directoryBlocks f image)
+    → (e : List ℕ) → sound e ≡ true → (left base end : ℕ) → left + 1 ≡ dirLength f → HasRoom image (512 * dirStart f .0) left (length e) base end
     → withDirectory f image (placed e (directoryBlocks f image)) ≡ paste image base (filled (entries (part base 512 image) ++ (e ∷ []))) 512
 unfolding directoryBlocks Cleans
 room-placed f image within clean e so left base end n r =
-    let d = drop (512 * dirStart f) image in
+    let d = drop (512 * dirStart f .0) image in
     let x = cutBlocks (r .index) d in
     let b = part base 512 image in
     let y = cutBlocks (dirLength f - (r .index + 1)) (drop (512 * (r .index + 1)) d) in
-    let own : part (512 * r .index) 512 d ≡ b = ap (take 512) (drop-drop (512 * r .index) (512 * dirStart f) image) ∙ ap (λ (p : ℕ). part p 512 image) (sym (r .block)) in
+    let own : part (512 * r .index) 512 d ≡ b = ap (take 512) (drop-drop (512 * r .index) (512 * dirStart f .0) image) ∙ ap (λ (p : ℕ). part p 512 image) (sym (r .block)) in
     let whole : directoryBlocks f image ≡ x ++ (b ∷ y) = cut-at (r .index) (dirLength f) d (omega (arith, r .within)) ∙ ap (λ (t : List ℕ). x ++ (t ∷ y)) own in
     let parts : Cleans (x ++ (b ∷ y)) = rw whole at clean in
     let long = added-reads e b (clean-parts x (b ∷ y) parts .1 .0) so (r .room) .clean .long in
-    let at : 512 * (dirStart f + length x) ≡ base = omega (arith, cut-count (r .index) d, r .block) in
+    let at : 512 * (dirStart f .0 + length x) ≡ base = omega (arith, cut-count (r .index) d, r .block) in
     ap (λ (bs : List (List ℕ)). withDirectory f image (placed e bs)) whole
     ∙ ap (withDirectory f image) (placed-at e x b y (r .none) (r .room))
     ∙ one-block f image within x b y whole (filled (entries b ++ (e ∷ []))) long

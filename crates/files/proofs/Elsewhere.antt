@@ -51,12 +51,12 @@ module _ {image name : List ℕ} {place : ℕ} {e : EntryAt} (acc : Accepted ima
 
   within : length (flat (h .lies .before)) + padded (51 + e .«name_length») ≤ 512
   within =
-      let base0 = 512 * dirStart f + 512 * h .lies .index in
+      let base0 = 512 * dirStart f .0 + 512 * h .lies .index in
       let size = size-here image base0 e (own-block f image e (h .lies) name has differ clean (r .within)) (h .there .stands) (lies-block f image e (h .lies)) in
       omega (arith, size, entry-within f image e (h .lies) name has differ clean)
 
   -- the same in base
-  abbrev lies : Lies base (512 * dirStart f) (dirLength f) e
+  abbrev lies : Lies base (512 * dirStart f .0) (dirLength f) e
   lies = lies-elsewhere f image base (b .blocks) e (h .lies) within
 
   bytes-same : bytesAt base e ≡ bytesAt image e
@@ -71,7 +71,7 @@ module _ {image name : List ℕ} {place : ℕ} {e : EntryAt} (acc : Accepted ima
   clean-same : Cleans (directoryBlocks f base)
   clean-same = subst Cleans (sym (b .blocks)) clean
 
-  within-same : 512 * dirStart f + 512 * dirLength f ≤ length base
+  within-same : 512 * dirStart f .0 + 512 * dirLength f ≤ length base
   within-same = omega (arith, b .long, r .within)
 
   pub stands : Stands base e
@@ -84,7 +84,7 @@ module _ {image name : List ℕ} {place : ℕ} {e : EntryAt} (acc : Accepted ima
       fork-stored f base e lies name has-same differ-same clean-same within-same fork a logical bs changed
       ∙ ap (λ (t : List (List ℕ)). withDirectory f base (rewritten name (withFork fork a logical bs changed) t)) (b .blocks)
 
-  start : e .start - e .start % 512 ≡ 512 * dirStart f + 512 * lies .index
+  start : e .start - e .start % 512 ≡ 512 * dirStart f .0 + 512 * lies .index
   start = own-start f base e lies name has-same differ-same clean-same
 
   pub block : Block base (e .start - e .start % 512)

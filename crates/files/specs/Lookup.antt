@@ -27,7 +27,7 @@ pub record Readable (f : VolumeFacts) (image : List ℕ) : Type 0 where
 pub record NamedEntry (image name : List ℕ) (place : ℕ) (e : EntryAt) : Type 0 where
   pub title : badName name ≡ false
   pub there : FirstNamed image name (directory image) place e
-  pub lies : Lies image (512 * dirStart (factsOf image)) (dirLength (factsOf image)) e
+  pub lies : Lies image (512 * dirStart (factsOf image) .0) (dirLength (factsOf image)) e
 
 -- 12 or 13
 pub record Missed (image name : List ℕ) (number : ℕ) : Type 0 where

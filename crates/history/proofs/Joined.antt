@@ -38,8 +38,8 @@ only-named image call bs base left es files number free one t r sub = record {
   size = t .long;
   blocks = record { 0 = t .d } ∷ [];
   few = one;
-  first = λ i l. alone (λ (d : ℕ). dirStart (factsOf image) ≤ d) (t .d) (t .first) i l;
-  last = λ i l. alone (λ (d : ℕ). d < dirStart (factsOf image) + dirLength (factsOf image)) (t .d) (t .last) i l;
+  first = λ i l. alone (λ (d : ℕ). dirStart (factsOf image) .0 ≤ d) (t .d) (t .first) i l;
+  last = λ i l. alone (λ (d : ℕ). d < dirStart (factsOf image) .0 + dirLength (factsOf image)) (t .d) (t .last) i l;
   kept = λ h n.
       t .kept h (λ w. n (inDirectory 0 h (omega arith) w)) (λ w. n (inFiles h w)) (λ w. n (inNext h w)) (λ w. n (inFree h w))
       ∙ r .halves h (λ b k w. n (inBlock b h (sub b k) w)) (λ b k x y. n (inEntry b h (sub b k) x y));

@@ -422,8 +422,8 @@ pub record OnlyNamed (call : Call) (image left : List ℕ) : Type 0 where
   -- directory blocks, as many as may differ for this call
   pub blocks : List LogicalBlock
   pub few : length blocks ≤ following call .directories
-  pub first : (i : ℕ) → i < length blocks → dirStart (factsOf image) ≤ directoryAt blocks i
-  pub last : (i : ℕ) → i < length blocks → directoryAt blocks i < dirStart (factsOf image) + dirLength (factsOf image)
+  pub first : (i : ℕ) → i < length blocks → dirStart (factsOf image) .0 ≤ directoryAt blocks i
+  pub last : (i : ℕ) → i < length blocks → directoryAt blocks i < dirStart (factsOf image) .0 + dirLength (factsOf image)
   pub kept : (h : ℕ) → (MayDiffer (factsOf image) (namedBlocks call image ++ namedBlocks call left) blocks h → ⊥) → half left h ≡ half image h
 
 -- ---- Refusal 17

@@ -39,7 +39,7 @@ module _ (image : List ℕ) (acc : Accepted image) where
   unfolding withDirectory
   alike-directory base bs l w n =
       let f = acc .facts in
-      alike-paste (S (factsOf image)) base (512 * dirStart (factsOf image)) (flat bs) (512 * dirLength (factsOf image))
+      alike-paste (S (factsOf image)) base (512 * dirStart (factsOf image) .0) (flat bs) (512 * dirLength (factsOf image))
       (omega (arith, readable-of image acc .within)) (omega (arith, whole-length bs w)) low (inr (omega (arith, f .dirBehind), omega (arith, f .dirBefore)))
 
   pub alike-files : (n : ℕ) (l : List ℕ) → Alike (S (factsOf image)) (withFiles n l) l

@@ -78,7 +78,7 @@ octets-cut (suc k) c h = (octets-take 512 c h, octets-cut k (drop 512 c) (octets
 
 octets-directory : (f : VolumeFacts) (image : List ℕ) → Octets image → AllOctets (directoryBlocks f image)
 unfolding directoryBlocks
-octets-directory f image h = octets-cut (dirLength f) (drop (512 * dirStart f) image) (octets-drop (512 * dirStart f) image h)
+octets-directory f image h = octets-cut (dirLength f) (drop (512 * dirStart f .0) image) (octets-drop (512 * dirStart f .0) image h)
 
 octets-read : (k : ℕ) (b : List ℕ) (p : ℕ) → Octets b → AllOctets (readAt k b p)
 unfolding readAt Each
@@ -158,7 +158,7 @@ octets-fork fork a logical bs changed s l p c e o =
 
 directory-kept : (f : VolumeFacts) (image : List ℕ) (bs : List (List ℕ)) → Bytes image → AllOctets bs → Bytes (withDirectory f image bs)
 unfolding withDirectory
-directory-kept f image bs h o = bytes-paste image (512 * dirStart f) (flat bs) (512 * dirLength f) h (bytes (flat bs) (octets-flat bs o))
+directory-kept f image bs h o = bytes-paste image (512 * dirStart f .0) (flat bs) (512 * dirLength f) h (bytes (flat bs) (octets-flat bs o))
 
 files-kept : (n : ℕ) (image : List ℕ) → n < 65536 → Bytes image → Bytes (withFiles n image)
 unfolding withFiles
@@ -228,7 +228,7 @@ module _ (image : List ℕ) (acc : Accepted image) where
         acc .files .count,
         acc .facts .dirMost,
         listing-few (directoryBlocks f image),
-        cut-count (dirLength f) (drop (512 * dirStart f) image),
+        cut-count (dirLength f) (drop (512 * dirStart f .0) image),
       )
 
   -- blocks that are at most N in number hold fewer bytes than a field can say

@@ -31,8 +31,8 @@ use Rattle.laws.proofs.Image.{facts-same, blocks-bytes, blocks-count, b
 
 -- what the checks say of the directory
 pub record Readable (image : List ℕ) : Type 0 where
-  pub behind : 4 ≤ dirStart (factsOf image)
-  pub within : 512 * dirStart (factsOf image) + 512 * dirLength (factsOf image) ≤ length image
+  pub behind : 4 ≤ dirStart (factsOf image) .0
+  pub within : 512 * dirStart (factsOf image) .0 + 512 * dirLength (factsOf image) ≤ length image
   pub numbered : 1 ≤ nextNumber (factsOf image)
   pub pass6 : fires6 (directory image) ≡ false
   pub pass7 : fires7 (factsOf image .files) (nextNumber (factsOf image)) (directory image) ≡ false
@@ -59,7 +59,7 @@ based-self image = record { long = refl; facts = refl; blocks = refl }
 
 -- it does where its bytes are alike there
 pub based-bytes : (image base : List ℕ) → length base ≡ length image → ((j : ℕ) → 1024 ≤ j → j < 1088 → byte base j ≡ byte image j)
-    → ((j : ℕ) → 512 * dirStart (factsOf image) ≤ j → j < 512 * dirStart (factsOf image) + 512 * dirLength (factsOf image) → byte base j ≡ byte image j)
+    → ((j : ℕ) → 512 * dirStart (factsOf image) .0 ≤ j → j < 512 * dirStart (factsOf image) .0 + 512 * dirLength (factsOf image) → byte base j ≡ byte image j)
     → Based image base
 based-bytes image base l p q = record { long = l; facts = facts-same base image l p; blocks = blocks-bytes (factsOf image) base image l q }
 
@@ -71,10 +71,10 @@ pub record Stepped (image base : List ℕ) (es : List (List ℕ)) (files next fr
   pub pass6 : fires6 es ≡ false
   pub pass7 : fires7 files next es ≡ false
   pub entry : (b : ℕ) → b ≤ 641 → mapEntry after b ≡ mapEntry base b
-  pub tail : (m : ℕ) → 512 * dirStart (factsOf image) + 512 * dirLength (factsOf image) ≤ m → drop m after ≡ drop m base
+  pub tail : (m : ℕ) → 512 * dirStart (factsOf image) .0 + 512 * dirLength (factsOf image) ≤ m → drop m after ≡ drop m base
   pub d : ℕ
-  pub first : dirStart (factsOf image) ≤ d
-  pub last : d < dirStart (factsOf image) + dirLength (factsOf image)
+  pub first : dirStart (factsOf image) .0 ≤ d
+  pub last : d < dirStart (factsOf image) .0 + dirLength (factsOf image)
   pub kept : (h : ℕ) → (Within (512 * d) 512 h → ⊥) → (Within 1036 2 h → ⊥) → (Within 1054 4 h → ⊥) → (Within 1058 2 h → ⊥) → half after h ≡ half base h
 
 module _ (image : List ℕ) (r : Readable image) where
@@ -96,7 +96,7 @@ module _ (image : List ℕ) (r : Readable image) where
   named-now name h = one-named name (directory image) names-now h
 
   module _ (base : List ℕ) (b : Based image base) (bs : List (List ℕ)) (s : Stays blocks bs) (o : OneBlock blocks bs) where
-    within-base : 512 * dirStart f + 512 * dirLength f ≤ length base
+    within-base : 512 * dirStart f .0 + 512 * dirLength f ≤ length base
     within-base = omega (arith, b .long, r .within)
 
     one-base : OneBlock (directoryBlocks f base) bs
@@ -118,7 +118,7 @@ module _ (image : List ℕ) (r : Readable image) where
       pass7 = p .1;
       entry = c .entry;
       tail = c .tail;
-      d = dirStart f + length (one-base .before);
+      d = dirStart f .0 + length (one-base .before);
       first = omega arith;
       last = differs-last f base within-base bs one-base;
       kept = λ h i₀ i₁ i₂ i₃. k h i₁ i₂ i₃ ∙ one-half f base within-base bs one-base h i₀;

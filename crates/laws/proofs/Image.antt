@@ -149,18 +149,18 @@ module _ (n : ℕ) (image : List ℕ) where
 -- ---- what an image reads as, from its bytes
 
 -- the directory is in its own bytes
-pub blocks-same : (f : VolumeFacts) (a b : List ℕ) → take (512 * dirLength f) (drop (512 * dirStart f) a) ≡ take (512 * dirLength f) (drop (512 * dirStart f) b)
+pub blocks-same : (f : VolumeFacts) (a b : List ℕ) → take (512 * dirLength f) (drop (512 * dirStart f .0) a) ≡ take (512 * dirLength f) (drop (512 * dirStart f .0) b)
     → directoryBlocks f a ≡ directoryBlocks f b
 unfolding directoryBlocks
 blocks-same f a b h =
-    sym (cut-front (dirLength f) (drop (512 * dirStart f) a)) ∙ ap (cutBlocks (dirLength f)) h ∙ cut-front (dirLength f) (drop (512 * dirStart f) b)
+    sym (cut-front (dirLength f) (drop (512 * dirStart f .0) a)) ∙ ap (cutBlocks (dirLength f)) h ∙ cut-front (dirLength f) (drop (512 * dirStart f .0) b)
 
-pub blocks-drop : (f : VolumeFacts) (a b : List ℕ) → drop (512 * dirStart f) a ≡ drop (512 * dirStart f) b → directoryBlocks f a ≡ directoryBlocks f b
+pub blocks-drop : (f : VolumeFacts) (a b : List ℕ) → drop (512 * dirStart f .0) a ≡ drop (512 * dirStart f .0) b → directoryBlocks f a ≡ directoryBlocks f b
 blocks-drop f a b h = blocks-same f a b (ap (take (512 * dirLength f)) h)
 
 pub blocks-bytes : (f : VolumeFacts) (a b : List ℕ) → length a ≡ length b
-    → ((j : ℕ) → 512 * dirStart f ≤ j → j < 512 * dirStart f + 512 * dirLength f → byte a j ≡ byte b j) → directoryBlocks f a ≡ directoryBlocks f b
-blocks-bytes f a b l at = blocks-same f a b (part-same a b (512 * dirStart f) (512 * dirLength f) l at)
+    → ((j : ℕ) → 512 * dirStart f .0 ≤ j → j < 512 * dirStart f .0 + 512 * dirLength f → byte a j ≡ byte b j) → directoryBlocks f a ≡ directoryBlocks f b
+blocks-bytes f a b l at = blocks-same f a b (part-same a b (512 * dirStart f .0) (512 * dirLength f) l at)
 
 -- other counts leave the directory blocks
 pub blocks-counts : (f : VolumeFacts) (files next free : ℕ) (image : List ℕ) → directoryBlocks (withCounts f files next free) image ≡ directoryBlocks f image
@@ -168,15 +168,15 @@ unfolding directoryBlocks withCounts
 blocks-counts f files next free image = refl
 
 -- a stored count leaves them too
-module _ (f : VolumeFacts) (behind : 4 ≤ dirStart f) (n : ℕ) (image : List ℕ) where
+module _ (f : VolumeFacts) (behind : 4 ≤ dirStart f .0) (n : ℕ) (image : List ℕ) where
   pub files-blocks : directoryBlocks f (withFiles n image) ≡ directoryBlocks f image
-  files-blocks = blocks-drop f (withFiles n image) image (files-drop n image (512 * dirStart f) (omega arith))
+  files-blocks = blocks-drop f (withFiles n image) image (files-drop n image (512 * dirStart f .0) (omega arith))
 
   pub next-blocks : directoryBlocks f (withNext n image) ≡ directoryBlocks f image
-  next-blocks = blocks-drop f (withNext n image) image (next-drop n image (512 * dirStart f) (omega arith))
+  next-blocks = blocks-drop f (withNext n image) image (next-drop n image (512 * dirStart f .0) (omega arith))
 
   pub free-blocks : directoryBlocks f (withFree n image) ≡ directoryBlocks f image
-  free-blocks = blocks-drop f (withFree n image) image (free-drop n image (512 * dirStart f) (omega arith))
+  free-blocks = blocks-drop f (withFree n image) image (free-drop n image (512 * dirStart f .0) (omega arith))
 
 -- a block's map entry is in two bytes
 pub entry-same : (a c : List ℕ) (b : ℕ) → byte a (entryByte b) ≡ byte c (entryByte b) → byte a (entryByte b + 1) ≡ byte c (entryByte b + 1) → mapEntry a b ≡ mapEntry c b
@@ -194,14 +194,14 @@ entry-drop a c b e = entry-same a c b (byte-drop a c 1088 (entryByte b) e (omega
 
 -- ---- other directory blocks
 
-module _ (f : VolumeFacts) (image : List ℕ) (within : 512 * dirStart f + 512 * dirLength f ≤ length image) where
+module _ (f : VolumeFacts) (image : List ℕ) (within : 512 * dirStart f .0 + 512 * dirLength f ≤ length image) where
   pub blocks-count : length (directoryBlocks f image) ≡ dirLength f
   unfolding directoryBlocks
-  blocks-count = cut-count (dirLength f) (drop (512 * dirStart f) image)
+  blocks-count = cut-count (dirLength f) (drop (512 * dirStart f .0) image)
 
   pub blocks-whole : Whole (directoryBlocks f image)
   unfolding directoryBlocks
-  blocks-whole = cut-whole (dirLength f) (drop (512 * dirStart f) image) (rw length-drop (omega arith))
+  blocks-whole = cut-whole (dirLength f) (drop (512 * dirStart f .0) image) (rw length-drop (omega arith))
 
   pub blocks-clean : every goodEntry (listing (directoryBlocks f image)) ≡ true → Cleans (directoryBlocks f image)
   blocks-clean g = whole-clean (directoryBlocks f image) blocks-whole g
@@ -210,39 +210,39 @@ module _ (f : VolumeFacts) (image : List ℕ) (within : 512 * dirStart f + 512 *
     full : length (flat bs) ≡ 512 * dirLength f
     full = whole-length bs w ∙ ap (λ (k : ℕ). 512 * k) n
 
-    spread : withDirectory f image bs ≡ take (512 * dirStart f) image ++ (flat bs ++ drop (512 * dirStart f + 512 * dirLength f) image)
+    spread : withDirectory f image bs ≡ take (512 * dirStart f .0) image ++ (flat bs ++ drop (512 * dirStart f .0 + 512 * dirLength f) image)
     unfolding withDirectory
     spread = rw (take-all (512 * dirLength f) (flat bs) (omega (arith, full)), append-assoc)
 
     pub with-blocks : directoryBlocks f (withDirectory f image bs) ≡ bs
     unfolding directoryBlocks
     with-blocks =
-        rw (spread, drop-at (take (512 * dirStart f) image) (flat bs ++ drop (512 * dirStart f + 512 * dirLength f) image) (512 * dirStart f) (length-take-le (512 * dirStart f) image (omega arith)), ← n)
+        rw (spread, drop-at (take (512 * dirStart f .0) image) (flat bs ++ drop (512 * dirStart f .0 + 512 * dirLength f) image) (512 * dirStart f .0) (length-take-le (512 * dirStart f .0) image (omega arith)), ← n)
         (flat-cut bs _ w)
 
     pub with-length : length (withDirectory f image bs) ≡ length image
     unfolding withDirectory
-    with-length = length-paste image (512 * dirStart f) (flat bs) (512 * dirLength f) within (omega (arith, full))
+    with-length = length-paste image (512 * dirStart f .0) (flat bs) (512 * dirLength f) within (omega (arith, full))
 
-    pub with-before : (j : ℕ) → j < 512 * dirStart f → byte (withDirectory f image bs) j ≡ byte image j
+    pub with-before : (j : ℕ) → j < 512 * dirStart f .0 → byte (withDirectory f image bs) j ≡ byte image j
     unfolding withDirectory
-    with-before j h = paste-before image (512 * dirStart f) (flat bs) (512 * dirLength f) within (omega (arith, full)) j h
+    with-before j h = paste-before image (512 * dirStart f .0) (flat bs) (512 * dirLength f) within (omega (arith, full)) j h
 
-    pub with-behind : (j : ℕ) → 512 * dirStart f + 512 * dirLength f ≤ j → byte (withDirectory f image bs) j ≡ byte image j
+    pub with-behind : (j : ℕ) → 512 * dirStart f .0 + 512 * dirLength f ≤ j → byte (withDirectory f image bs) j ≡ byte image j
     unfolding withDirectory
-    with-behind j h = paste-behind image (512 * dirStart f) (flat bs) (512 * dirLength f) within (omega (arith, full)) j h
+    with-behind j h = paste-behind image (512 * dirStart f .0) (flat bs) (512 * dirLength f) within (omega (arith, full)) j h
 
-    pub with-drop : (m : ℕ) → 512 * dirStart f + 512 * dirLength f ≤ m → drop m (withDirectory f image bs) ≡ drop m image
+    pub with-drop : (m : ℕ) → 512 * dirStart f .0 + 512 * dirLength f ≤ m → drop m (withDirectory f image bs) ≡ drop m image
     unfolding withDirectory
     with-drop m h =
-        let p : 512 * dirStart f + 512 * dirLength f + (m - (512 * dirStart f + 512 * dirLength f)) ≡ m = omega arith in
+        let p : 512 * dirStart f .0 + 512 * dirLength f + (m - (512 * dirStart f .0 + 512 * dirLength f)) ≡ m = omega arith in
         ap (λ (k : ℕ). drop k (withDirectory f image bs)) (sym p)
-        ∙ sym (drop-drop (m - (512 * dirStart f + 512 * dirLength f)) (512 * dirStart f + 512 * dirLength f) (withDirectory f image bs))
-        ∙ ap (drop (m - (512 * dirStart f + 512 * dirLength f))) (drop-paste image (512 * dirStart f) (flat bs) (512 * dirLength f) (omega arith) (omega (arith, full)))
-        ∙ drop-drop (m - (512 * dirStart f + 512 * dirLength f)) (512 * dirStart f + 512 * dirLength f) image
+        ∙ sym (drop-drop (m - (512 * dirStart f .0 + 512 * dirLength f)) (512 * dirStart f .0 + 512 * dirLength f) (withDirectory f image bs))
+        ∙ ap (drop (m - (512 * dirStart f .0 + 512 * dirLength f))) (drop-paste image (512 * dirStart f .0) (flat bs) (512 * dirLength f) (omega arith) (omega (arith, full)))
+        ∙ drop-drop (m - (512 * dirStart f .0 + 512 * dirLength f)) (512 * dirStart f .0 + 512 * dirLength f) image
         ∙ ap (λ (k : ℕ). drop k image) p
 
-    module _ (behind : 4 ≤ dirStart f) where
+    module _ (behind : 4 ≤ dirStart f .0) where
       pub with-facts : factsOf (withDirectory f image bs) ≡ factsOf image
       with-facts = facts-same (withDirectory f image bs) image with-length (λ j p q. with-before j (omega arith))
 
@@ -259,9 +259,9 @@ pub record Changed (f : VolumeFacts) (image : List ℕ) (bs : List (List ℕ)) (
   pub blocks : directoryBlocks f after ≡ bs
   -- the map entries of blocks up to 641, and all bytes behind the directory, stay
   pub entry : (b : ℕ) → b ≤ 641 → mapEntry after b ≡ mapEntry image b
-  pub tail : (m : ℕ) → 512 * dirStart f + 512 * dirLength f ≤ m → drop m after ≡ drop m image
+  pub tail : (m : ℕ) → 512 * dirStart f .0 + 512 * dirLength f ≤ m → drop m after ≡ drop m image
 
-module _ (f : VolumeFacts) (image : List ℕ) (behind : 4 ≤ dirStart f) (within : 512 * dirStart f + 512 * dirLength f ≤ length image) (bs : List (List ℕ)) where
+module _ (f : VolumeFacts) (image : List ℕ) (behind : 4 ≤ dirStart f .0) (within : 512 * dirStart f .0 + 512 * dirLength f ≤ length image) (bs : List (List ℕ)) where
   pub changed-listing : {files next free : ℕ} {after : List ℕ} → Changed f image bs files next free after → directory after ≡ listing bs
   unfolding directory
   changed-listing {files} {next} {free} {after} c =
@@ -343,7 +343,7 @@ paste-at p b t c a k h i j =
     rw (take-at p (b ++ t) a h, ← drop-drop k a (p ++ (b ++ t)), drop-at p (b ++ t) a h, drop-at b t k i, take-all k c (omega arith), append-assoc)
 
 -- block b of the directory
-module _ (f : VolumeFacts) (image : List ℕ) (within : 512 * dirStart f + 512 * dirLength f ≤ length image) (x : List (List ℕ)) (b : List ℕ) (y : List (List ℕ))
+module _ (f : VolumeFacts) (image : List ℕ) (within : 512 * dirStart f .0 + 512 * dirLength f ≤ length image) (x : List (List ℕ)) (b : List ℕ) (y : List (List ℕ))
     (h : directoryBlocks f image ≡ x ++ (b ∷ y)) where
   parts : Whole x × Whole (b ∷ y)
   parts = whole-parts x (b ∷ y) (rw h at (blocks-whole f image within))
@@ -355,34 +355,34 @@ module _ (f : VolumeFacts) (image : List ℕ) (within : 512 * dirStart f + 512 *
   count : length x + suc (length y) ≡ dirLength f
   count = sym (length-append x (b ∷ y)) ∙ sym (ap length h) ∙ blocks-count f image within
 
-  pub block-last : dirStart f + length x < dirStart f + dirLength f
+  pub block-last : dirStart f .0 + length x < dirStart f .0 + dirLength f
   block-last = omega (arith, count)
 
   abbrev ahead : List ℕ
-  ahead = take (512 * dirStart f) image ++ flat x
+  ahead = take (512 * dirStart f .0) image ++ flat x
 
   abbrev following : List ℕ
-  following = flat y ++ drop (512 * dirStart f + 512 * dirLength f) image
+  following = flat y ++ drop (512 * dirStart f .0 + 512 * dirLength f) image
 
-  ahead-length : length ahead ≡ 512 * (dirStart f + length x)
+  ahead-length : length ahead ≡ 512 * (dirStart f .0 + length x)
   ahead-length =
-      length-append (take (512 * dirStart f) image) (flat x)
-      ∙ omega (arith, length-take-le (512 * dirStart f) image (omega arith), whole-length x (parts .0))
+      length-append (take (512 * dirStart f .0) image) (flat x)
+      ∙ omega (arith, length-take-le (512 * dirStart f .0) image (omega arith), whole-length x (parts .0))
 
   -- where it is in the image
   pub block-at : image ≡ ahead ++ (b ++ following)
   unfolding flat directoryBlocks
   block-at =
-      let e : flat (directoryBlocks f image) ++ drop (512 * dirLength f) (drop (512 * dirStart f) image) ≡ drop (512 * dirStart f) image
-      = cut-flat (dirLength f) (drop (512 * dirStart f) image) (rw length-drop (omega arith)) in
-      let body : flat (x ++ (b ∷ y)) ++ drop (512 * dirStart f + 512 * dirLength f) image ≡ drop (512 * dirStart f) image
-      = ap (λ (t : List (List ℕ)). flat t ++ drop (512 * dirStart f + 512 * dirLength f) image) (sym h)
-      ∙ ap (λ (t : List ℕ). flat (directoryBlocks f image) ++ t) (sym (drop-drop (512 * dirLength f) (512 * dirStart f) image)) ∙ e in
-      sym (take-append-drop (512 * dirStart f) image)
-      ∙ ap (λ (t : List ℕ). take (512 * dirStart f) image ++ t) (sym body ∙ ap (λ (t : List ℕ). t ++ drop (512 * dirStart f + 512 * dirLength f) image) (flat-append x (b ∷ y)))
+      let e : flat (directoryBlocks f image) ++ drop (512 * dirLength f) (drop (512 * dirStart f .0) image) ≡ drop (512 * dirStart f .0) image
+      = cut-flat (dirLength f) (drop (512 * dirStart f .0) image) (rw length-drop (omega arith)) in
+      let body : flat (x ++ (b ∷ y)) ++ drop (512 * dirStart f .0 + 512 * dirLength f) image ≡ drop (512 * dirStart f .0) image
+      = ap (λ (t : List (List ℕ)). flat t ++ drop (512 * dirStart f .0 + 512 * dirLength f) image) (sym h)
+      ∙ ap (λ (t : List ℕ). flat (directoryBlocks f image) ++ t) (sym (drop-drop (512 * dirLength f) (512 * dirStart f .0) image)) ∙ e in
+      sym (take-append-drop (512 * dirStart f .0) image)
+      ∙ ap (λ (t : List ℕ). take (512 * dirStart f .0) image ++ t) (sym body ∙ ap (λ (t : List ℕ). t ++ drop (512 * dirStart f .0 + 512 * dirLength f) image) (flat-append x (b ∷ y)))
       ∙ simp append-assoc
 
-  pub block-within : 512 * (dirStart f + length x) + 512 ≤ length image
+  pub block-within : 512 * (dirStart f .0 + length x) + 512 ≤ length image
   block-within = omega (arith, count)
 
   with-block : (c : List ℕ) → length c ≡ 512 → withDirectory f image (x ++ (c ∷ y)) ≡ ahead ++ (c ++ following)
@@ -392,15 +392,15 @@ module _ (f : VolumeFacts) (image : List ℕ) (within : 512 * dirStart f + 512 *
       ∙ rw (flat-append x (c ∷ y)) (simp append-assoc)
 
   -- the image with another block there
-  pub one-block : (c : List ℕ) → length c ≡ 512 → withDirectory f image (x ++ (c ∷ y)) ≡ paste image (512 * (dirStart f + length x)) c 512
+  pub one-block : (c : List ℕ) → length c ≡ 512 → withDirectory f image (x ++ (c ∷ y)) ≡ paste image (512 * (dirStart f .0 + length x)) c 512
   one-block c l =
       with-block c l
-      ∙ sym (paste-at ahead b following c (512 * (dirStart f + length x)) 512 ahead-length block-long l)
-      ∙ ap (λ (t : List ℕ). paste t (512 * (dirStart f + length x)) c 512) (sym block-at)
+      ∙ sym (paste-at ahead b following c (512 * (dirStart f .0 + length x)) 512 ahead-length block-long l)
+      ∙ ap (λ (t : List ℕ). paste t (512 * (dirStart f .0 + length x)) c 512) (sym block-at)
 
   -- two stores in the block are stores in the image
   pub two-stores : (i j : ℕ) (vs ws : List ℕ) → i + length vs ≤ 512 → j + length ws ≤ 512
-      → withDirectory f image (x ++ (sets (sets b i vs) j ws ∷ y)) ≡ sets (sets image (512 * (dirStart f + length x) + i) vs) (512 * (dirStart f + length x) + j) ws
+      → withDirectory f image (x ++ (sets (sets b i vs) j ws ∷ y)) ≡ sets (sets image (512 * (dirStart f .0 + length x) + i) vs) (512 * (dirStart f .0 + length x) + j) ws
   two-stores i j vs ws p q =
       let lb = length-sets b i vs in
       with-block (sets (sets b i vs) j ws) (length-sets (sets b i vs) j ws ∙ lb ∙ block-long)
@@ -440,15 +440,15 @@ module _ (n : ℕ) (image : List ℕ) (h : ℕ) where
   unfolding withFree
   free-half o = half-outside-sets (u16 n) image 1058 h o
 
-module _ (f : VolumeFacts) (image : List ℕ) (within : 512 * dirStart f + 512 * dirLength f ≤ length image) (bs : List (List ℕ)) (o : OneBlock (directoryBlocks f image) bs) where
-  -- block `dirStart f + length (o .before)` differs
-  pub differs-last : dirStart f + length (o .before) < dirStart f + dirLength f
+module _ (f : VolumeFacts) (image : List ℕ) (within : 512 * dirStart f .0 + 512 * dirLength f ≤ length image) (bs : List (List ℕ)) (o : OneBlock (directoryBlocks f image) bs) where
+  -- block `dirStart f .0 + length (o .before)` differs
+  pub differs-last : dirStart f .0 + length (o .before) < dirStart f .0 + dirLength f
   differs-last = block-last f image within (o .before) (o .was) (o .behind) (o .old)
 
-  pub one-paste : withDirectory f image bs ≡ paste image (512 * (dirStart f + length (o .before))) (o .now) 512
+  pub one-paste : withDirectory f image bs ≡ paste image (512 * (dirStart f .0 + length (o .before))) (o .now) 512
   one-paste = ap (withDirectory f image) (o .new) ∙ one-block f image within (o .before) (o .was) (o .behind) (o .old) (o .now) (o .long)
 
-  pub one-half : (h : ℕ) → (Within (512 * (dirStart f + length (o .before))) 512 h → ⊥) → half (withDirectory f image bs) h ≡ half image h
+  pub one-half : (h : ℕ) → (Within (512 * (dirStart f .0 + length (o .before))) 512 h → ⊥) → half (withDirectory f image bs) h ≡ half image h
   one-half h k =
       ap (λ (t : List ℕ). half t h) one-paste
-      ∙ half-outside-paste image (512 * (dirStart f + length (o .before))) (o .now) 512 (block-within f image within (o .before) (o .was) (o .behind) (o .old)) (omega (arith, o .long)) h k
+      ∙ half-outside-paste image (512 * (dirStart f .0 + length (o .before))) (o .now) 512 (block-within f image within (o .before) (o .was) (o .behind) (o .old)) (omega (arith, o .long)) h k

@@ -37,8 +37,8 @@ pub record Layout (f : VolumeFacts) (blocks : ℕ) : Type 0 where
   pub most : N f ≤ 640
   pub dirSome : 1 ≤ dirLength f
   pub dirMost : dirLength f ≤ 256
-  pub dirBehind : 4 ≤ dirStart f
-  pub dirBefore : dirStart f + dirLength f ≤ S f .0
+  pub dirBehind : 4 ≤ dirStart f .0
+  pub dirBefore : dirStart f .0 + dirLength f ≤ S f .0
   pub backup : S f .0 + N f * A f / 512 ≤ blocks - 2
 
 module _ (f : VolumeFacts) (blocks : ℕ) where
@@ -52,8 +52,8 @@ module _ (f : VolumeFacts) (blocks : ℕ) where
       let h = or-false (ltb 640 (N f)) _ (g .1) in
       let i = or-false (ltb (dirLength f) 1) _ (h .1) in
       let j = or-false (ltb 256 (dirLength f)) _ (i .1) in
-      let k = or-false (ltb (dirStart f) 4) _ (j .1) in
-      let l = or-false (ltb (S f .0) (dirStart f + dirLength f)) _ (k .1) in
+      let k = or-false (ltb (dirStart f .0) 4) _ (j .1) in
+      let l = or-false (ltb (S f .0) (dirStart f .0 + dirLength f)) _ (k .1) in
       let m = or-false (ltb (blocks - 2) (S f .0 + N f * A f / 512)) _ (l .1) in
       record {
         multiple = eqb-true (A f % 512) 0 (not-false _ (c .0));
@@ -63,8 +63,8 @@ module _ (f : VolumeFacts) (blocks : ℕ) where
         most = ltb-false 640 (N f) (h .0);
         dirSome = ltb-false (dirLength f) 1 (i .0);
         dirMost = ltb-false 256 (dirLength f) (j .0);
-        dirBehind = ltb-false (dirStart f) 4 (k .0);
-        dirBefore = ltb-false (S f .0) (dirStart f + dirLength f) (l .0);
+        dirBehind = ltb-false (dirStart f .0) 4 (k .0);
+        dirBefore = ltb-false (S f .0) (dirStart f .0 + dirLength f) (l .0);
         backup = ltb-false (blocks - 2) (S f .0 + N f * A f / 512) (m .0);
       }
 
@@ -80,8 +80,8 @@ module _ (f : VolumeFacts) (blocks : ℕ) where
         le-ltb 640 (N f) (s .most),
         le-ltb (dirLength f) 1 (s .dirSome),
         le-ltb 256 (dirLength f) (s .dirMost),
-        le-ltb (dirStart f) 4 (s .dirBehind),
-        le-ltb (S f .0) (dirStart f + dirLength f) (s .dirBefore),
+        le-ltb (dirStart f .0) 4 (s .dirBehind),
+        le-ltb (S f .0) (dirStart f .0 + dirLength f) (s .dirBefore),
         le-ltb (blocks - 2) (S f .0 + N f * A f / 512) (s .backup),
       )
 

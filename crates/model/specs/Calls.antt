@@ -174,7 +174,7 @@ withFork fork a logical bs changed e =
 
 -- the image with these directory blocks
 unfoldable pub withDirectory : VolumeFacts → List ℕ → List (List ℕ) → List ℕ
-withDirectory f image bs = paste image (512 * dirStart f) (flat bs) (512 * dirLength f)
+withDirectory f image bs = paste image (512 * dirStart f .0) (flat bs) (512 * dirLength f)
 
 -- the image with this number of files, this next file number, this free count
 unfoldable pub withFiles : ℕ → List ℕ → List ℕ

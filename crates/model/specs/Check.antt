@@ -30,8 +30,8 @@ unfoldable pub fires3 : VolumeFacts → ℕ → Bool
 fires3 f blocks =
     not (eqb (A f % 512) 0) || (ltb (A f) 512 || (ltb 32768 (A f)
     || (ltb (N f) 1 || (ltb 640 (N f)
-    || (ltb (dirLength f) 1 || (ltb 256 (dirLength f) || (ltb (dirStart f) 4
-    || (ltb (S f .0) (dirStart f + dirLength f)
+    || (ltb (dirLength f) 1 || (ltb 256 (dirLength f) || (ltb (dirStart f .0) 4
+    || (ltb (S f .0) (dirStart f .0 + dirLength f)
     || (ltb (blocks - 2) (S f .0 + N f * A f / 512)
     || eqb (nextNumber f) 0)))))))))
 
@@ -143,8 +143,8 @@ pub record SoundFacts (f : VolumeFacts) (size : ℕ) : Type 0 where
   pub most : N f ≤ 640
   pub dirSome : 1 ≤ dirLength f
   pub dirMost : dirLength f ≤ 256
-  pub dirBehind : 4 ≤ dirStart f
-  pub dirBefore : dirStart f + dirLength f ≤ S f .0
+  pub dirBehind : 4 ≤ dirStart f .0
+  pub dirBefore : dirStart f .0 + dirLength f ≤ S f .0
   pub backup : S f .0 + N f * A f / 512 ≤ size / 512 - 2
   pub numbered : 1 ≤ nextNumber f
   -- 4

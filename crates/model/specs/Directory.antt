@@ -56,7 +56,7 @@ cutBlocks (suc k) c = take 512 c ∷ cutBlocks k (drop 512 c)
 
 -- the directory blocks of an image with these facts
 unfoldable pub directoryBlocks : VolumeFacts → List ℕ → List (List ℕ)
-directoryBlocks f image = cutBlocks (dirLength f) (drop (512 * dirStart f) image)
+directoryBlocks f image = cutBlocks (dirLength f) (drop (512 * dirStart f .0) image)
 
 -- directory order: the entries of the first block, then those of the next
 unfoldable pub listing : List (List ℕ) → List (List ℕ)

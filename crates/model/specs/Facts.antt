@@ -34,8 +34,8 @@ unfoldable pub factsOf : List ℕ → VolumeFacts
 factsOf image = factsIn (drop 1024 image)
 
 -- directory: first block, length in blocks
-abbrev pub dirStart : VolumeFacts → ℕ
-dirStart f = f .«directory_start» .0
+abbrev pub dirStart : VolumeFacts → LogicalBlock
+dirStart f = f .«directory_start»
 
 abbrev pub dirLength : VolumeFacts → ℕ
 dirLength f = f .«directory_length»
