@@ -55,7 +55,8 @@ named-based image acc name there fork size at =
     let v = factsOf image in
     let g = forkOf fork (theEntry image acc name there) in
     based image acc (forkBlocks (mapEntry image) (A v) g) (afterCut (A v) image g size)
-    (cut-frame (S v) (A v) (N v) (freeCount v) image (area image acc) (around image acc name there fork) (beyond image acc name there fork) g (passes-there image acc name there fork) size at)
+    (cut-frame (S v) (A v) (N v) (freeCount v) image (area image acc) (around image acc name there fork) (beyond image acc name there fork) g
+    (passes-there image acc name there fork) size at)
 
 module _ {f : VolumeFacts} {image : List ℕ} {e : EntryAt} {fork : Fork} {g : ForkFacts} (h : ForkAt f image e fork g) where
   pub has-most : g .physical / A f ≤ 640
@@ -94,8 +95,10 @@ module _ {f : VolumeFacts} {image : List ℕ} {e : EntryAt} {fork : Fork} {g : F
     cut-stands x has keep c k p = rw (p, k, c) (held-stands (h .held) (afterCut (A f) image g size) cut-based)
 
     -- the stores, one behind the other
-    leaves : (changed start : ℕ) (x y z : List ℕ) → start ≡ firstOr0 (take (fewest size (A f)) (forkBlocks (mapEntry image) (A f) g)) → x ≡ afterCut (A f) image g size
-        → y ≡ sets (sets x (e .start + forkPlace fork) (fields (record { start = record { 0 = start }; logical = size; physical = fewest size (A f) * A f }))) (e .start + 46) (u32 changed)
+    leaves : (changed start : ℕ) (x y z : List ℕ)
+        → start ≡ firstOr0 (take (fewest size (A f)) (forkBlocks (mapEntry image) (A f) g)) → x ≡ afterCut (A f) image g size
+        → y ≡ sets (sets x (e .start + forkPlace fork) (fields (record { start = record { 0 = start }; logical = size; physical = fewest size (A f) * A f })))
+        (e .start + 46) (u32 changed)
         → z ≡ withFree (freeCount f + (g .physical / A f - fewest size (A f))) y
         → Shortened f image e fork g size changed z
     unfolding shortened forkBlocks blockCount
@@ -113,7 +116,8 @@ module _ {f : VolumeFacts} {image : List ℕ} {e : EntryAt} {fork : Fork} {g : F
     pub cut-leaves : (changed has keep start : ℕ) (x y z : List ℕ) → has ≡ g .physical / A f → keep ≡ fewest size (A f)
         → start ≡ firstOr0 (take keep (chainBlocks (mapEntry image) has (g .start .0)))
         → x ≡ putFree (putChain image (take keep (chainBlocks (mapEntry image) has (g .start .0)))) (drop keep (chainBlocks (mapEntry image) has (g .start .0)))
-        → y ≡ sets (sets x (e .start + forkPlace fork) (fields (record { start = record { 0 = start }; logical = size; physical = keep * A f }))) (e .start + 46) (u32 changed)
+        → y ≡ sets (sets x (e .start + forkPlace fork) (fields (record { start = record { 0 = start }; logical = size; physical = keep * A f })))
+        (e .start + 46) (u32 changed)
         → z ≡ withFree (freeCount f + (has - keep)) y
         → Shortened f image e fork g size changed z
     unfolding forkBlocks blockCount

@@ -63,8 +63,10 @@ module _ (image : List ℕ) (acc : Accepted image) (name : List ℕ) (there : an
   abbrev beyond : List ForkFacts
   beyond = forksIn (it-alone image acc name there .behind)
 
-  both-sound : Sound (mapEntry image) (N v) (lists (mapEntry image) (A v) before ++ (lists (mapEntry image) (A v) (forkOf Data it ∷ forkOf Resource it ∷ []) ++ lists (mapEntry image) (A v) beyond))
-  both-sound = parted (mapEntry image) (N v) (A v) (freeCount v) before (forkOf Data it ∷ forkOf Resource it ∷ []) beyond (passes-there image acc name there Data)
+  both-sound : Sound (mapEntry image) (N v)
+      (lists (mapEntry image) (A v) before ++ (lists (mapEntry image) (A v) (forkOf Data it ∷ forkOf Resource it ∷ []) ++ lists (mapEntry image) (A v) beyond))
+  both-sound =
+      parted (mapEntry image) (N v) (A v) (freeCount v) before (forkOf Data it ∷ forkOf Resource it ∷ []) beyond (passes-there image acc name there Data)
 
   -- they share none
   named-apart : (b : ℕ) → times b (forkBlocks (mapEntry image) (A v) (forkOf Data it)) + times b (forkBlocks (mapEntry image) (A v) (forkOf Resource it)) ≤ 1
@@ -72,7 +74,8 @@ module _ (image : List ℕ) (acc : Accepted image) (name : List ℕ) (there : an
   named-apart b =
       omega (
         arith,
-        part-once (N v) (acc .facts .most) (mapEntry image) (lists (mapEntry image) (A v) before) (lists (mapEntry image) (A v) (forkOf Data it ∷ forkOf Resource it ∷ []))
+        part-once (N v) (acc .facts .most) (mapEntry image) (lists (mapEntry image) (A v) before)
+            (lists (mapEntry image) (A v) (forkOf Data it ∷ forkOf Resource it ∷ []))
             (lists (mapEntry image) (A v) beyond) both-sound b,
       )
 
@@ -81,7 +84,8 @@ module _ (image : List ℕ) (acc : Accepted image) (name : List ℕ) (there : an
   named-based =
       let freed = bothBlocks (mapEntry image) (A v) (forkOf Data it) (forkOf Resource it) in
       based image acc freed (putFree image freed)
-      (delete-frame (S v) (A v) (N v) (freeCount v) image (area image acc) before beyond (forkOf Data it) (forkOf Resource it) (passes-there image acc name there Data))
+      (delete-frame (S v) (A v) (N v) (freeCount v) image (area image acc) before beyond (forkOf Data it) (forkOf Resource it)
+      (passes-there image acc name there Data))
 
 module _ {f : VolumeFacts} {image : List ℕ} {e : EntryAt} (h : FileAt f image e)
     (d r : ForkFacts) (p : d ≡ forkOf Data (bytesAt image e)) (q : r ≡ forkOf Resource (bytesAt image e)) where
@@ -100,7 +104,8 @@ module _ {f : VolumeFacts} {image : List ℕ} {e : EntryAt} (h : FileAt f image 
       (subst (P f (forkOf Data (bytesAt image e))) (sym q) (at-held h (λ (v : VolumeFacts) (b : List ℕ). P v (forkOf Data b) (forkOf Resource b)) x))
 
   apart : (b : ℕ) → times b content + times b resource ≤ 1
-  apart = at-both (λ (v : VolumeFacts) (k l : ForkFacts). (b : ℕ) → times b (forkBlocks (mapEntry image) (A v) k) + times b (forkBlocks (mapEntry image) (A v) l) ≤ 1)
+  apart = at-both (λ (v : VolumeFacts) (k l : ForkFacts). (b : ℕ)
+      → times b (forkBlocks (mapEntry image) (A v) k) + times b (forkBlocks (mapEntry image) (A v) l) ≤ 1)
       (named-apart image (h .readable .accepted) (h .name) (h .found .there .exists))
 
   delete-based : Based image (putFree image (content ++ resource))
@@ -128,7 +133,8 @@ module _ {f : VolumeFacts} {image : List ℕ} {e : EntryAt} (h : FileAt f image 
     unfolding forkBlocks blockCount
     kept =
         same-chain (mapEntry image) (mapEntry x) (N f) (r .physical / A f) (r .start .0) (fork-runs h Resource r q)
-        (λ b m. ap (λ (l : List ℕ). mapEntry l b) s ∙ putFree-other (N f) (few h) image content b (long-image (h .readable)) in-map (low b m) (omega (arith, apart b)))
+        (λ b m. ap (λ (l : List ℕ). mapEntry l b) s
+        ∙ putFree-other (N f) (few h) image content b (long-image (h .readable)) in-map (low b m) (omega (arith, apart b)))
 
     pub resource-runs : 0 < r .physical / A f → runs (mapEntry x) (N f) (r .physical / A f) (r .start .0) ≡ true
     resource-runs = kept .0

@@ -81,7 +81,8 @@ module _ (image : List ℕ) (acc : Accepted image) (name : List ℕ) (there : an
       let t = lists e (A f) (beyond image acc name there fork) in
       let bs = forkBlocks e (A f) its in
       let r = take k (freeBlocks e (N f)) in
-      let h = parted e (N f) (A f) (freeCount f) (around image acc name there fork) (its ∷ []) (beyond image acc name there fork) (passes-there image acc name there fork) in
+      let h = parted e (N f) (A f) (freeCount f) (around image acc name there fork) (its ∷ [])
+      (beyond image acc name there fork) (passes-there image acc name there fork) in
       let s = write-sound (N f) (ar .few) image (omega (arith, ar .low, ar .room)) p t bs r h (lowest-free (N f) (ar .few) e k) in
       each-right (Linked (mapEntry (putChain image (bs ++ r))) (N f)) p ((bs ++ r) ∷ t) (s .linked) .0
 
@@ -111,7 +112,12 @@ module _ {f : VolumeFacts} {image : List ℕ} {e : EntryAt} (h : FileAt f image 
     length-grown =
         let bs = chainBlocks (mapEntry image) (g .physical / A f) (g .start .0) in
         let r = freeBlocks (mapEntry image) (N f) in
-        omega (arith, length-append bs (take need r), length-chain (mapEntry image) (g .physical / A f) (g .start .0), length-take-le need r (omega (arith, free-blocks (h .readable))))
+        omega (
+          arith,
+          length-append bs (take need r),
+          length-chain (mapEntry image) (g .physical / A f) (g .start .0),
+          length-take-le need r (omega (arith, free-blocks (h .readable))),
+        )
 
     -- a chain has at most 640 blocks, and no sum wraps
     pub grown-few : g .physical / A f + need ≤ 640
@@ -129,7 +135,9 @@ module _ {f : VolumeFacts} {image : List ℕ} {e : EntryAt} (h : FileAt f image 
     module _ (l : List ℕ) (t : ℕ) (p : l ≡ putChain image (grownBlocks f image g need)) (s : t ≡ firstOr0 (grownBlocks f image g need)) where
       chain : (1 ≤ g .physical / A f + need → runs (mapEntry l) (N f) (g .physical / A f + need) t ≡ true)
           × (chainBlocks (mapEntry l) (g .physical / A f + need) t ≡ grownBlocks f image g need)
-      chain = rw p (linked-from (mapEntry (putChain image (grownBlocks f image g need))) (N f) (grownBlocks f image g need) t (g .physical / A f + need) (linked need) s length-grown)
+      chain =
+          let all = grownBlocks f image g need in
+          rw p (linked-from (mapEntry (putChain image all)) (N f) all t (g .physical / A f + need) (linked need) s length-grown)
 
       pub grown-fillable : Fillable l (S f) (A f) t (g .physical / A f + need)
       grown-fillable =
@@ -149,7 +157,9 @@ module _ {f : VolumeFacts} {image : List ℕ} {e : EntryAt} (h : FileAt f image 
 
       pub grown-stored : (o : ℕ) (xs after : List ℕ) → after ≡ putContent (S f) (A f) l (chainBlocks (mapEntry l) (g .physical / A f + need) t) o xs
           → after ≡ grownBase f image g need o xs
-      grown-stored o xs after r = r ∙ ap (λ (bs : List ℕ). putContent (S f) (A f) l bs o xs) (chain .1) ∙ ap (λ (m : List ℕ). putContent (S f) (A f) m (grownBlocks f image g need) o xs) p
+      grown-stored o xs after r =
+          r ∙ ap (λ (bs : List ℕ). putContent (S f) (A f) l bs o xs) (chain .1)
+          ∙ ap (λ (m : List ℕ). putContent (S f) (A f) m (grownBlocks f image g need) o xs) p
 
     module _ (o : ℕ) (xs : List ℕ) (at : o ≤ g .logical) (is : need ≡ newBlocks f g o (length xs)) where
       pub grown-fits : max (g .logical) (o + length xs) ≤ (g .physical / A f + need) * A f

@@ -17,15 +17,15 @@ differs h = so-not true h refl
 
 -- ---- what a step found, by its case
 
-module _ (image : List ℕ) (c : Cursor) (s : Step) (h : Stepped image c s) where
-  pub moved : (e : EntryAt) (d : Cursor) → s ≡ Entry e d → Moves image c e d
-  moved e d p = rw p at h
+module _ {image : List ℕ} {c : Cursor} {s : Step} where
+  pub moved : {e : EntryAt} {d : Cursor} → Stepped image c s → s ≡ Entry e d → Moves image c e d
+  moved h p = rw p at h
 
-  pub ended : s ≡ End → restOf image c ≡ []
-  ended p = rw p at h
+  pub failed : Stepped image c s → s ≡ Bad → Fails image c
+  failed h p = rw p at h
 
-  pub failed : s ≡ Bad → Fails image c
-  failed p = rw p at h
+pub ended : (image : List ℕ) (c : Cursor) {s : Step} → Stepped image c s → s ≡ End → restOf image c ≡ []
+ended image c h p = rw p at h
 
 -- ---- check 6
 
@@ -42,9 +42,10 @@ module _ (image : List ℕ) (c : Cursor) where
   unfolding fires6 every
   six-fails m = rw (m .rest, m .bad)
 
-  pub passes-more : Passes image c → (e : EntryAt) (d : Cursor) → Moves image c e d → Passes image d
-  passes-more p e d m = record { fits = m .fits; good = sym (six-more e d m) ∙ p .good }
+-- a reading that passes it: the entries behind the next one do too, and no step finds one that fails
+module _ {image : List ℕ} {c : Cursor} (p : Passes image c) where
+  pub passes-more : {e : EntryAt} {d : Cursor} → Moves image c e d → Passes image d
+  passes-more {e} {d} m = record { fits = m .fits; good = sym (six-more image c e d m) ∙ p .good }
 
-  -- no step finds an entry that fails
-  pub never-fails : Passes image c → Fails image c → ⊥
-  never-fails p m = so-not (fires6 (restOf image c)) (p .good) (six-fails m)
+  pub never-fails : {s : Step} → Stepped image c s → s ≡ Bad → ⊥
+  never-fails h q = so-not (fires6 (restOf image c)) (p .good) (six-fails image c (failed h q))

@@ -91,12 +91,14 @@ module _ (number : ℕ) (name finder : List ℕ) (created changed : ℕ) (whole 
       let lg = next-sets m s _ 50 f lf (length name ∷ []) 1 refl (omega arith) g pg in
       next-part m s _ 51 g lg name (length name) refl (omega arith) h ph
 
-  module _ (image : List ℕ) (base end : ℕ) (k : Block image base) (ends : end ≡ readEnd (part base 512 image)) (room : end + padded (51 + length name) ≤ 512) where
+  module _ (image : List ℕ) (base end : ℕ) (k : Block image base) (ends : end ≡ readEnd (part base 512 image))
+      (room : end + padded (51 + length name) ≤ 512) where
     -- its stores, and zeros to the block's end
     pub inserted-stores : (a b c d e f g h y : List ℕ) → a ≡ sets image (base + end + 0) (u16 0x8000)
         → b ≡ paste a (base + end + 2) finder (length finder) → c ≡ sets b (base + end + 18) (u32 number) → d ≡ paste c (base + end + 22) (zeros 20) 20
         → e ≡ sets d (base + end + 42) (u32 created) → f ≡ sets e (base + end + 46) (u32 changed) → g ≡ set f (base + end + 50) (length name)
-        → h ≡ paste g (base + end + 51) name (length name) → (at z : ℕ) → at ≡ base + end + (51 + length name) → z ≡ base + 512 - at → y ≡ paste h at (zeros z) z
+        → h ≡ paste g (base + end + 51) name (length name) → (at z : ℕ) → at ≡ base + end + (51 + length name) → z ≡ base + 512 - at
+        → y ≡ paste h at (zeros z) z
         → y ≡ paste image base (filled (entries (part base 512 image) ++ (newEntry number name finder created changed ∷ []))) 512
     unfolding padded
     inserted-stores a b c d e f g h y pa pb pc pd pe pf pg ph at z ha hz py =

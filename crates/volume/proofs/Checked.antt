@@ -47,7 +47,8 @@ module _ (image : List ℕ) (b : Bytes image) where
     pub does-facts : n ≡ 0 → Does check image (toldCheck (record { number = 0; facts = g })) image
     unfolding reply tellsFacts change refuses Fits
     does-facts z =
-        let told : toldCheck (record { number = 0; facts = g }) ≡ tellsFacts (factsOf image) = ap (λ (k : VolumeFacts). toldCheck (record { number = 0; facts = k })) e in
+        let told : toldCheck (record { number = 0; facts = g }) ≡ tellsFacts (factsOf image) =
+        ap (λ (k : VolumeFacts). toldCheck (record { number = 0; facts = k })) e in
         rw told (does-serve check image b tt (sym (by-own check image 0 (sym is-verdict ∙ z) refl)))
 
 -- ---- what its answer says
@@ -62,7 +63,8 @@ unfolding refusal refuses
 refusal-check image = first-alone (verdict image)
 
 module _ (image : List ℕ) (r : CheckAnswer) (left : List ℕ) (d : Does check image (toldCheck r) left) where
-  number-is : r .number ≡ verdict image
+  -- its number is that of the first check that fires
+  pub number-is : r .number ≡ verdict image
   unfolding answer reply tellsFacts only
   number-is = ap (λ (a : Answer). a .number) (d .answers) ∙ go (ℕ-discrete (refusal check image) 0) ∙ refusal-check image
     where
@@ -80,7 +82,3 @@ module _ (image : List ℕ) (r : CheckAnswer) (left : List ℕ) (d : Does check 
         facts = ap (λ (a : Answer). a .facts) (d .answers ∙ given);
         accepted = verdict-accepted image v;
       }
-
-  -- any other number is that of the check that fires
-  pub unchecked : (r .number ≡ 0 → ⊥) → r .number ≡ verdict image
-  unchecked z = number-is

@@ -5,20 +5,26 @@ use mathlib.Core.List.{List}
 use lib.ListN.{length}
 use Rattle.model.specs.Bytes.{Bytes}
 use Rattle.model.specs.Directory.{noEntry}
-use Rattle.model.specs.Check.{verdict}
-use Rattle.model.specs.Calls.{Call, Does, Fits}
-use Rattle.model.specs.Calls.{only, lent}
-use Rattle.model.specs.Calls.Call.{entry, find, block, read, create, write, cut, delete}
+use Rattle.model.specs.Calls.{Call, Does, Fits, only, lent}
+use Rattle.model.specs.Calls.Call.{check, entry, find, block, read, create, write, cut, delete}
 use Rattle.laws.proofs.Calls.{by-volume, does-refuse}
 use Rattle.model.specs.declared.DirectoryEntry.{DirectoryEntry}
 use Rattle.model.specs.declared.Fork.{Fork}
-use Rattle.files.specs.Told.{toldEntry, toldFind, toldBlock, toldRead, toldNumber}
+use Rattle.files.specs.declared.CheckAnswer.{CheckAnswer}
+use Rattle.files.specs.Told.{toldCheck, toldEntry, toldFind, toldBlock, toldRead, toldNumber}
+use Rattle.volume.proofs.Checked.{number-is}
 
-module _ {image : List ℕ} {n : ℕ} (octets : Bytes image) (v : n ≡ verdict image) (z : n ≡ 0 → ⊥) where
+-- what check answered: a number other than 0
+module _ (image : List ℕ) (r : CheckAnswer) (d : Does check image (toldCheck r) image) (z : r .number ≡ 0 → ⊥) where
+  abbrev n : ℕ
+  n = r .number
+
+  -- each call answers that number and leaves the image
   stop : (call : Call) → Fits call → Does call image (only n (lent call)) image
-  stop call fits = does-refuse call image n octets fits (by-volume call image n v z) z
+  stop call fits = does-refuse call image n (d .bytes) fits (by-volume call image n (number-is image r image d) z) z
 
-  pub entry-stopped : (place : ℕ) (e : DirectoryEntry) → place < 2 ^ 64 → e ≡ noEntry → Does (entry place) image (toldEntry (record { number = n; entry = e })) image
+  pub entry-stopped : (place : ℕ) (e : DirectoryEntry) → place < 2 ^ 64 → e ≡ noEntry
+      → Does (entry place) image (toldEntry (record { number = n; entry = e })) image
   unfolding Fits only lent
   entry-stopped place e fits q = rw q (stop (entry place) fits)
 

@@ -8,7 +8,7 @@ use denote.Ref.{now}
 use Rattle.model.specs.Lists.{any}
 use Rattle.directory.specs.Cursor.{restOf, Passes, ahead, bytesAt, Moves}
 use Rattle.checks.specs.Same.{clash}
-use Rattle.directory.proofs.Each.{moved, ended, failed, passes-more, never-fails}
+use Rattle.directory.proofs.Each.{moved, ended, passes-more, never-fails}
 use Rattle.directory.proofs.Tests.{any-pass, any-fail}
 use borrow.Author.Needs.{needs}
 use Rattle.checks.proofs.pairs.clashes_behind.Statement.{statement}
@@ -20,24 +20,32 @@ Inv-loop image e c₀ c = Passes image c × (any (clash (bytesAt image e)) (rest
 abbrev μ-loop : tie.MeasureT-loop
 μ-loop image e c₀ c = ahead c
 
+-- the loop's test, from the next entry on, and the start
+abbrev at-loop : tie.After-d Inv-loop μ-loop → tie.At-loop Inv-loop μ-loop
+at-loop c = c .before .before .before
+
+abbrev start : tie.At-loop Inv-loop μ-loop → tie.Start Inv-loop μ-loop
+start l = l .before .before
+
 -- the step to the next entry, its bytes, and the entries behind it
-step : (c : tie.After-d Inv-loop μ-loop) → Moves (now (c .before .before .before .before .before .args .image)) (c .before .before .before .loop .c) (c .d .given .0 .0) (c .d .given .0 .1 .0)
-step c = let n = c .before .before in moved (now (n .before .before .before .args .image)) (n .before .loop .c) (n .next .result) (n .next .ensures) _ _ (c .d .given .1)
+step : (c : tie.After-d Inv-loop μ-loop) → let l = at-loop c in
+    Moves (now (start l .args .image)) (l .loop .c) (c .d .given .0 .0) (c .d .given .0 .1 .0)
+step c = let n = c .before .before in moved (n .next .ensures) (c .d .given .1)
 
 abbrev bytes : tie.After-d Inv-loop μ-loop → List ℕ
-bytes c = bytesAt (now (c .before .before .before .before .before .args .image)) (c .d .given .0 .0)
+bytes c = bytesAt (now (start (at-loop c) .args .image)) (c .d .given .0 .0)
 
 abbrev rest : tie.After-d Inv-loop μ-loop → List (List ℕ)
-rest c = restOf (now (c .before .before .before .before .before .args .image)) (c .d .given .0 .1 .0)
+rest c = restOf (now (start (at-loop c) .args .image)) (c .d .given .0 .1 .0)
 
 -- the given entry
 abbrev given : tie.After-d Inv-loop μ-loop → List ℕ
-given c = let a = c .before .before .before .before .before .args in bytesAt (now (a .image)) (a .e)
+given c = let a = start (at-loop c) .args in bytesAt (now (a .image)) (a .e)
 
 here : (c : tie.After-d Inv-loop μ-loop)
-    → any (clash (given c)) (restOf (now (c .before .before .before .before .before .args .image)) (c .before .before .before .before .before .args .from))
+    → any (clash (given c)) (restOf (now (start (at-loop c) .args .image)) (start (at-loop c) .args .from))
     ≡ any (clash (given c)) (bytes c ∷ rest c)
-here c = c .before .before .before .loop .inv .1 ∙ ap (any (clash (given c))) (step c .rest)
+here c = at-loop c .loop .inv .1 ∙ ap (any (clash (given c))) (step c .rest)
 
 loop-holds : tie.Need-loop-holds Inv-loop μ-loop
 loop-holds c = (c .before .pre .0, refl)
@@ -63,7 +71,7 @@ loop-again : tie.Need-loop-again Inv-loop μ-loop
 loop-again c =
     let k = c .before .before .before in
     let l = k .before .before .before in
-    let pass = passes-more (now (l .before .before .args .image)) (l .loop .c) (l .loop .inv .0) _ _ (step k) in
+    let pass = passes-more (l .loop .inv .0) (step k) in
     (pass, here k ∙ any-fail (clash (given k)) (bytes k) (rest k) (sym (c .before .clashes .ensures) ∙ c .if1 .left))
 
 enum-told : tie.Need-enum-told Inv-loop μ-loop
@@ -75,7 +83,7 @@ returns-2 c =
     let n = c .before .before in
     let l = n .before .loop in
     let a = n .before .before .before .args in
-    let none = ended (now (a .image)) (l .c) (n .next .result) (n .next .ensures) (c .enum-told .given .1) in
+    let none = ended (now (a .image)) (l .c) (n .next .ensures) (c .enum-told .given .1) in
     sym (l .inv .1 ∙ ap (any (clash (bytesAt (now (a .image)) (a .e)))) none)
 
 enum-told-2 : tie.Need-enum-told-2 Inv-loop μ-loop
@@ -85,8 +93,7 @@ returns-3 : tie.Need-returns-3 Inv-loop μ-loop
 returns-3 c =
     let n = c .before .before in
     let l = n .before .loop in
-    let image = now (n .before .before .before .args .image) in
-    absurd (never-fails image (l .c) (l .inv .0) (failed image (l .c) (n .next .result) (n .next .ensures) (c .enum-told2 .given .1)))
+    absurd (never-fails (l .inv .0) (n .next .ensures) (c .enum-told2 .given .1))
 
 pub clashes-behind-spec : {M : Type 1} → statement M
 clashes-behind-spec =

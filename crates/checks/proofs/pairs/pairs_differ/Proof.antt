@@ -9,7 +9,7 @@ use denote.Ref.{now}
 use Rattle.model.specs.Lists.{any, distinct}
 use Rattle.directory.specs.Cursor.{restOf, Passes, ahead, bytesAt, Moves}
 use Rattle.checks.specs.Same.{clash}
-use Rattle.directory.proofs.Each.{moved, ended, failed, passes-more, never-fails}
+use Rattle.directory.proofs.Each.{moved, ended, passes-more, never-fails}
 use Rattle.checks.proofs.Clashes.{allDiffer, differ-more}
 use borrow.Author.Needs.{needs}
 use Rattle.checks.proofs.pairs.pairs_differ.Statement.{statement}
@@ -21,23 +21,31 @@ Inv-loop image c₀ c = Passes image c × (allDiffer (restOf image c₀) ≡ all
 abbrev μ-loop : tie.MeasureT-loop
 μ-loop image c₀ c = ahead c
 
+-- the loop's test, from the next entry on, and the start
+abbrev at-loop : tie.After-e Inv-loop μ-loop → tie.At-loop Inv-loop μ-loop
+at-loop c = c .before .before .before
+
+abbrev start : tie.At-loop Inv-loop μ-loop → tie.Start Inv-loop μ-loop
+start l = l .before .before
+
 -- the step to the next entry, its bytes, and the entries behind it
-step : (c : tie.After-e Inv-loop μ-loop) → Moves (now (c .before .before .before .before .before .args .image)) (c .before .before .before .loop .c) (c .e .given .0 .0) (c .e .given .0 .1 .0)
-step c = let n = c .before .before in moved (now (n .before .before .before .args .image)) (n .before .loop .c) (n .next .result) (n .next .ensures) _ _ (c .e .given .1)
+step : (c : tie.After-e Inv-loop μ-loop) → let l = at-loop c in
+    Moves (now (start l .args .image)) (l .loop .c) (c .e .given .0 .0) (c .e .given .0 .1 .0)
+step c = let n = c .before .before in moved (n .next .ensures) (c .e .given .1)
 
 abbrev bytes : tie.After-e Inv-loop μ-loop → List ℕ
-bytes c = bytesAt (now (c .before .before .before .before .before .args .image)) (c .e .given .0 .0)
+bytes c = bytesAt (now (start (at-loop c) .args .image)) (c .e .given .0 .0)
 
 abbrev rest : tie.After-e Inv-loop μ-loop → List (List ℕ)
-rest c = restOf (now (c .before .before .before .before .before .args .image)) (c .e .given .0 .1 .0)
+rest c = restOf (now (start (at-loop c) .args .image)) (c .e .given .0 .1 .0)
 
-pass : (c : tie.After-e Inv-loop μ-loop) → Passes (now (c .before .before .before .before .before .args .image)) (c .e .given .0 .1 .0)
-pass c = let l = c .before .before .before in passes-more (now (l .before .before .args .image)) (l .loop .c) (l .loop .inv .0) _ _ (step c)
+pass : (c : tie.After-e Inv-loop μ-loop) → Passes (now (start (at-loop c) .args .image)) (c .e .given .0 .1 .0)
+pass c = let l = c .before .before .before in passes-more (l .loop .inv .0) (step c)
 
 here : (c : tie.After-e Inv-loop μ-loop)
-    → allDiffer (restOf (now (c .before .before .before .before .before .args .image)) (c .before .before .before .before .before .args .from))
+    → allDiffer (restOf (now (start (at-loop c) .args .image)) (start (at-loop c) .args .from))
     ≡ (not (any (clash (bytes c)) (rest c)) && allDiffer (rest c))
-here c = c .before .before .before .loop .inv .1 ∙ ap allDiffer (step c .rest) ∙ differ-more (bytes c) (rest c)
+here c = at-loop c .loop .inv .1 ∙ ap allDiffer (step c .rest) ∙ differ-more (bytes c) (rest c)
 
 loop-holds : tie.Need-loop-holds Inv-loop μ-loop
 unfolding allDiffer
@@ -77,7 +85,7 @@ returns-2 c =
     let n = c .before .before in
     let l = n .before .loop in
     let a = n .before .before .before .args in
-    let none = ended (now (a .image)) (l .c) (n .next .result) (n .next .ensures) (c .enum-told .given .1) in
+    let none = ended (now (a .image)) (l .c) (n .next .ensures) (c .enum-told .given .1) in
     sym (l .inv .1 ∙ ap allDiffer none)
 
 enum-told-2 : tie.Need-enum-told-2 Inv-loop μ-loop
@@ -87,8 +95,7 @@ returns-3 : tie.Need-returns-3 Inv-loop μ-loop
 returns-3 c =
     let n = c .before .before in
     let l = n .before .loop in
-    let image = now (n .before .before .before .args .image) in
-    absurd (never-fails image (l .c) (l .inv .0) (failed image (l .c) (n .next .result) (n .next .ensures) (c .enum-told2 .given .1)))
+    absurd (never-fails (l .inv .0) (n .next .ensures) (c .enum-told2 .given .1))
 
 pub pairs-differ-spec : {M : Type 1} → statement M
 pairs-differ-spec =

@@ -6,7 +6,7 @@ use mathlib.Core.List.{List, _∷_}
 use native.Mathlib.Omega.{arith}
 use denote.Ref.{now}
 use Rattle.directory.specs.Cursor.{restOf, Passes, ahead, bytesAt, Moves}
-use Rattle.directory.proofs.Each.{moved, ended, failed, passes-more, never-fails}
+use Rattle.directory.proofs.Each.{moved, ended, passes-more, never-fails}
 use Rattle.checks.specs.Table.{FreeAt}
 use Rattle.checks.proofs.Kept.{Kept, found-free, found-met, kept-none, kept-more, kept-met, kept-end}
 use borrow.Author.Needs.{needs}
@@ -19,15 +19,23 @@ Inv-loop image field table₀ c₀ table c = Passes image c × Kept field image 
 abbrev μ-loop : tie.MeasureT-loop
 μ-loop image field table₀ c₀ table c = ahead c
 
+-- the loop's test, from the next entry on, and the start
+abbrev at-loop : tie.After-e Inv-loop μ-loop → tie.At-loop Inv-loop μ-loop
+at-loop c = c .before .before .before
+
+abbrev start : tie.At-loop Inv-loop μ-loop → tie.Start Inv-loop μ-loop
+start l = l .before .before
+
 -- the step to the next entry, its bytes, and the entries behind it
-step : (c : tie.After-e Inv-loop μ-loop) → Moves (now (c .before .before .before .before .before .args .image)) (c .before .before .before .loop .c) (c .e .given .0 .0) (c .e .given .0 .1 .0)
-step c = let n = c .before .before in moved (now (n .before .before .before .args .image)) (n .before .loop .c) (n .next .result) (n .next .ensures) _ _ (c .e .given .1)
+step : (c : tie.After-e Inv-loop μ-loop) → let l = at-loop c in
+    Moves (now (start l .args .image)) (l .loop .c) (c .e .given .0 .0) (c .e .given .0 .1 .0)
+step c = let n = c .before .before in moved (n .next .ensures) (c .e .given .1)
 
 abbrev bytes : tie.After-e Inv-loop μ-loop → List ℕ
-bytes c = bytesAt (now (c .before .before .before .before .before .args .image)) (c .e .given .0 .0)
+bytes c = bytesAt (now (start (at-loop c) .args .image)) (c .e .given .0 .0)
 
 abbrev rest : tie.After-e Inv-loop μ-loop → List (List ℕ)
-rest c = restOf (now (c .before .before .before .before .before .args .image)) (c .e .given .0 .1 .0)
+rest c = restOf (now (start (at-loop c) .args .image)) (c .e .given .0 .1 .0)
 
 -- the table before the next entry is put there
 here : (c : tie.After-e Inv-loop μ-loop) → let l = c .before .before .before in let a = l .before .before .args in
@@ -38,8 +46,8 @@ here c =
     subst (λ (es : List (List ℕ)). Kept (a .field) (now (a .image)) (restOf (now (a .image)) (a .from)) es (l .loop .table)) (step c .rest) (l .loop .inv .1)
 
 -- the free slot for it
-free : (c : tie.After-i Inv-loop μ-loop) → let k = c .before .before .before .before .before in let l = k .before .before .before in let a = l .before .before .args in
-    FreeAt (a .field) (now (a .image)) (l .loop .table) (k .e .given .0 .0) (c .i .given .0 .0)
+free : (c : tie.After-i Inv-loop μ-loop) → let k = c .before .before .before .before .before in let l = at-loop k in
+    FreeAt (start l .args .field) (now (start l .args .image)) (l .loop .table) (k .e .given .0 .0) (c .i .given .0 .0)
 free c = found-free _ _ _ _ _ (c .before .before .probe .ensures) _ (c .i .given .1)
 
 loop-holds : tie.Need-loop-holds Inv-loop μ-loop
@@ -76,7 +84,7 @@ loop-again : tie.Need-loop-again Inv-loop μ-loop
 loop-again c =
     let k = c .before .before .before .before .before .before .before in
     let l = k .before .before .before in
-    let pass = passes-more (now (l .before .before .args .image)) (l .loop .c) (l .loop .inv .0) _ _ (step k) in
+    let pass = passes-more (l .loop .inv .0) (step k) in
     (pass, kept-more _ _ _ (here k .long) _ (step k .stands) _ (free (c .before .before)) _ _ (here k))
 
 enum-told : tie.Need-enum-told Inv-loop μ-loop
@@ -101,7 +109,7 @@ returns-3 c =
     let n = c .before .before in
     let l = n .before .loop in
     let a = n .before .before .before .args in
-    let none = ended (now (a .image)) (l .c) (n .next .result) (n .next .ensures) (c .enum-told3 .given .1) in
+    let none = ended (now (a .image)) (l .c) (n .next .ensures) (c .enum-told3 .given .1) in
     kept-end _ _ _ _ (subst (λ (es : List (List ℕ)). Kept (a .field) (now (a .image)) (restOf (now (a .image)) (a .from)) es (l .table)) none (l .inv .1))
 
 enum-told-4 : tie.Need-enum-told-4 Inv-loop μ-loop
@@ -111,8 +119,7 @@ returns-4 : tie.Need-returns-4 Inv-loop μ-loop
 returns-4 c =
     let n = c .before .before in
     let l = n .before .loop in
-    let image = now (n .before .before .before .args .image) in
-    absurd (never-fails image (l .c) (l .inv .0) (failed image (l .c) (n .next .result) (n .next .ensures) (c .enum-told4 .given .1)))
+    absurd (never-fails (l .inv .0) (n .next .ensures) (c .enum-told4 .given .1))
 
 pub insert-all-spec : {M : Type 1} → statement M
 insert-all-spec =

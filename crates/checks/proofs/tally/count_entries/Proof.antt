@@ -28,8 +28,9 @@ abbrev μ-loop : tie.MeasureT-loop
 μ-loop image next c₀ count₀ numbered₀ c count numbered = ahead c
 
 -- the step to the next entry, its bytes, and the entries behind it
-step : (c : tie.After-e Inv-loop μ-loop) → Moves (now (c .before .before .before .before .before .args .image)) (c .before .before .before .loop .c) (c .e .given .0 .0) (c .e .given .0 .1 .0)
-step c = let n = c .before .before in moved (now (n .before .before .before .args .image)) (n .before .loop .c) (n .next .result) (n .next .ensures) _ _ (c .e .given .1)
+step : (c : tie.After-e Inv-loop μ-loop) → let l = c .before .before .before in
+    Moves (now (l .before .before .args .image)) (l .loop .c) (c .e .given .0 .0) (c .e .given .0 .1 .0)
+step c = let n = c .before .before in moved (n .next .ensures) (c .e .given .1)
 
 abbrev bytes : tie.After-e Inv-loop μ-loop → List ℕ
 bytes c = bytesAt (now (c .before .before .before .before .before .args .image)) (c .e .given .0 .0)
@@ -88,7 +89,7 @@ returns c =
     let n = c .before .before in
     let l = n .before .loop in
     let a = n .before .before .before .args in
-    let none = ended (now (a .image)) (l .c) (n .next .result) (n .next .ensures) (c .enum-told .given .1) in
+    let none = ended (now (a .image)) (l .c) (n .next .ensures) (c .enum-told .given .1) in
     let long = ap (length {A = List ℕ}) none in
     record {
       six = sym (l .inv .2 ∙ six-none (now (a .image)) (l .c) none);
@@ -104,8 +105,11 @@ returns-2 c =
     let n = c .before .before in
     let l = n .before .loop in
     let image = now (n .before .before .before .args .image) in
-    let fails = failed image (l .c) (n .next .result) (n .next .ensures) (c .enum-told2 .given .1) in
-    record { six = sym (l .inv .2 ∙ six-fails image (l .c) fails); counted = λ h. absurd (differs h); tested = λ h. absurd (differs h) }
+    record {
+      six = sym (l .inv .2 ∙ six-fails image (l .c) (failed (n .next .ensures) (c .enum-told2 .given .1)));
+      counted = λ h. absurd (differs h);
+      tested = λ h. absurd (differs h);
+    }
 
 pub count-entries-spec : {M : Type 1} → statement M
 count-entries-spec =

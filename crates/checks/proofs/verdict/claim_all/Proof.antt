@@ -9,7 +9,7 @@ use Rattle.model.specs.declared.ForkFacts.{ForkFacts}
 use Rattle.model.specs.declared.Fork.the-variants.{Data, Resource}
 use Rattle.blockmap.specs.Decoded.{entryIn}
 use Rattle.directory.specs.Cursor.{restOf, Passes, ahead, bytesAt, Moves}
-use Rattle.directory.proofs.Each.{moved, ended, failed, passes-more, never-fails}
+use Rattle.directory.proofs.Each.{moved, ended, passes-more, never-fails}
 use Rattle.checks.proofs.Claims.{Onward, onward-none, onward-same, onward-end, onward-claim, onward-not, forks-more, forks-none}
 use borrow.Author.Needs.{needs}
 use Rattle.checks.proofs.verdict.claim_all.Statement.{statement}
@@ -21,30 +21,42 @@ Inv-loop image entries n a marks₀ c₀ marks c = Passes image c × Onward (ent
 abbrev μ-loop : tie.MeasureT-loop
 μ-loop image entries n a marks₀ c₀ marks c = ahead c
 
+-- the loop's test, from the next entry on, and the start
+abbrev at-loop : tie.After-e Inv-loop μ-loop → tie.At-loop Inv-loop μ-loop
+at-loop c = c .before .before .before
+
+abbrev start : tie.At-loop Inv-loop μ-loop → tie.Start Inv-loop μ-loop
+start l = l .before .before
+
 -- the step to the next entry, its bytes, and the entries behind it
-step : (c : tie.After-e Inv-loop μ-loop) → Moves (now (c .before .before .before .before .before .args .image)) (c .before .before .before .loop .c) (c .e .given .0 .0) (c .e .given .0 .1 .0)
-step c = let n = c .before .before in moved (now (n .before .before .before .args .image)) (n .before .loop .c) (n .next .result) (n .next .ensures) _ _ (c .e .given .1)
+step : (c : tie.After-e Inv-loop μ-loop) → let l = at-loop c in
+    Moves (now (start l .args .image)) (l .loop .c) (c .e .given .0 .0) (c .e .given .0 .1 .0)
+step c = let n = c .before .before in moved (n .next .ensures) (c .e .given .1)
 
 abbrev bytes : tie.After-e Inv-loop μ-loop → List ℕ
-bytes c = bytesAt (now (c .before .before .before .before .before .args .image)) (c .e .given .0 .0)
+bytes c = bytesAt (now (start (at-loop c) .args .image)) (c .e .given .0 .0)
 
 abbrev rest : tie.After-e Inv-loop μ-loop → List (List ℕ)
-rest c = restOf (now (c .before .before .before .before .before .args .image)) (c .e .given .0 .1 .0)
+rest c = restOf (now (start (at-loop c) .args .image)) (c .e .given .0 .1 .0)
 
 -- to claim all forks is to claim these from the marks u
 abbrev Left : tie.After-e Inv-loop μ-loop → List ℕ → List ForkFacts → Type 0
-Left c u hs = let a = c .before .before .before .before .before .args in Onward (entryIn (now (a .entries))) (a .n) (a .a) (now (a .marks)) (forksIn (restOf (now (a .image)) (a .from))) u hs
+Left c u hs =
+    let a = start (at-loop c) .args in
+    Onward (entryIn (now (a .entries))) (a .n) (a .a) (now (a .marks)) (forksIn (restOf (now (a .image)) (a .from))) u hs
 
 -- before the entry's data fork is claimed
-first : (c : tie.After-e Inv-loop μ-loop) → Left c (c .before .before .before .loop .marks) (forkOf Data (bytes c) ∷ forkOf Resource (bytes c) ∷ forksIn (rest c))
-first c = onward-same _ _ _ _ _ _ (c .before .before .before .loop .inv .1) (forks-more _ _ _ (step c .rest))
+first : (c : tie.After-e Inv-loop μ-loop) → Left c (at-loop c .loop .marks) (forkOf Data (bytes c) ∷ forkOf Resource (bytes c) ∷ forksIn (rest c))
+first c = onward-same _ _ _ _ _ _ (at-loop c .loop .inv .1) (forks-more _ _ _ (step c .rest))
 
 -- and behind it
-second : (c : tie.Else1 Inv-loop μ-loop) → let k = c .before .before .before .before .before in Left k (c .before .claim-fork .last .1 .1 .1 .1 .0) (forkOf Resource (bytes k) ∷ forksIn (rest k))
+second : (c : tie.Else1 Inv-loop μ-loop) → let k = c .before .before .before .before .before in
+    Left k (c .before .claim-fork .last .1 .1 .1 .1 .0) (forkOf Resource (bytes k) ∷ forksIn (rest k))
 second c =
     let claim = c .before in
     let read = claim .before .before in
-    onward-claim _ _ _ _ _ _ _ _ _ (first (read .before .before)) (read .read-fork .ensures) _ (claim .claim-fork .ensures .0) _ (not-false _ (c .if1 .left)) (claim .claim-fork .ensures .1)
+    onward-claim _ _ _ _ _ _ _ _ _ (first (read .before .before)) (read .read-fork .ensures) _ (claim .claim-fork .ensures .0) _
+    (not-false _ (c .if1 .left)) (claim .claim-fork .ensures .1)
 
 loop-holds : tie.Need-loop-holds Inv-loop μ-loop
 loop-holds c = (c .before .pre .1, onward-none _ _ _ _ _)
@@ -88,8 +100,9 @@ loop-again c =
     let read = claim .before .before in
     let k = read .before .before .before .before .before .before in
     let l = k .before .before .before in (
-      passes-more (now (l .before .before .args .image)) (l .loop .c) (l .loop .inv .0) _ _ (step k),
-      onward-claim _ _ _ _ _ _ _ _ _ (second (read .before)) (read .read-fork2 .ensures) _ (claim .claim-fork2 .ensures .0) _ (not-false _ (c .if2 .left)) (claim .claim-fork2 .ensures .1),
+      passes-more (l .loop .inv .0) (step k),
+      onward-claim _ _ _ _ _ _ _ _ _ (second (read .before)) (read .read-fork2 .ensures) _ (claim .claim-fork2 .ensures .0) _
+          (not-false _ (c .if2 .left)) (claim .claim-fork2 .ensures .1),
     )
 
 enum-told : tie.Need-enum-told Inv-loop μ-loop
@@ -99,7 +112,7 @@ returns-3 : tie.Need-returns-3 Inv-loop μ-loop
 returns-3 c =
     let n = c .before .before in
     let l = n .before .loop in
-    onward-end _ _ _ _ _ _ (onward-same _ _ _ _ _ _ (l .inv .1) (forks-none _ (ended _ _ (n .next .result) (n .next .ensures) (c .enum-told .given .1))))
+    onward-end _ _ _ _ _ _ (onward-same _ _ _ _ _ _ (l .inv .1) (forks-none _ (ended _ _ (n .next .ensures) (c .enum-told .given .1))))
 
 enum-told-2 : tie.Need-enum-told-2 Inv-loop μ-loop
 enum-told-2 c = search needs
@@ -108,8 +121,7 @@ returns-4 : tie.Need-returns-4 Inv-loop μ-loop
 returns-4 c =
     let n = c .before .before in
     let l = n .before .loop in
-    let image = now (n .before .before .before .args .image) in
-    absurd (never-fails image (l .c) (l .inv .0) (failed image (l .c) (n .next .result) (n .next .ensures) (c .enum-told2 .given .1)))
+    absurd (never-fails (l .inv .0) (n .next .ensures) (c .enum-told2 .given .1))
 
 pub claim-all-spec : {M : Type 1} → statement M
 claim-all-spec =

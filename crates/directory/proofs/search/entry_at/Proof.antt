@@ -6,7 +6,7 @@ use native.Mathlib.Omega.{arith}
 use denote.Ref.{now}
 use lib.ListN.{length, getD}
 use Rattle.directory.specs.Cursor.{restOf, Passes, ahead, bytesAt, Moves}
-use Rattle.directory.proofs.Each.{moved, ended, failed, passes-more, never-fails}
+use Rattle.directory.proofs.Each.{moved, ended, passes-more, never-fails}
 use Rattle.directory.proofs.Tests.{at-first, at-later}
 use borrow.Author.Needs.{needs}
 use Rattle.directory.proofs.search.entry_at.Statement.{statement}
@@ -20,20 +20,28 @@ Inv-loop image place c₀ due₀ c due =
 abbrev μ-loop : tie.MeasureT-loop
 μ-loop image place c₀ due₀ c due = ahead c
 
+-- the loop's test, from the next entry on, and the start
+abbrev at-loop : tie.After-e Inv-loop μ-loop → tie.At-loop Inv-loop μ-loop
+at-loop c = c .before .before .before
+
+abbrev start : tie.At-loop Inv-loop μ-loop → tie.Start Inv-loop μ-loop
+start l = l .before .before
+
 -- the step to the next entry, its bytes, and the entries behind it
-step : (c : tie.After-e Inv-loop μ-loop) → Moves (now (c .before .before .before .before .before .args .image)) (c .before .before .before .loop .c) (c .e .given .0 .0) (c .e .given .0 .1 .0)
-step c = let n = c .before .before in moved (now (n .before .before .before .args .image)) (n .before .loop .c) (n .next .result) (n .next .ensures) _ _ (c .e .given .1)
+step : (c : tie.After-e Inv-loop μ-loop) → let l = at-loop c in
+    Moves (now (start l .args .image)) (l .loop .c) (c .e .given .0 .0) (c .e .given .0 .1 .0)
+step c = let n = c .before .before in moved (n .next .ensures) (c .e .given .1)
 
 abbrev bytes : tie.After-e Inv-loop μ-loop → List ℕ
-bytes c = bytesAt (now (c .before .before .before .before .before .args .image)) (c .e .given .0 .0)
+bytes c = bytesAt (now (start (at-loop c) .args .image)) (c .e .given .0 .0)
 
 abbrev rest : tie.After-e Inv-loop μ-loop → List (List ℕ)
-rest c = restOf (now (c .before .before .before .before .before .args .image)) (c .e .given .0 .1 .0)
+rest c = restOf (now (start (at-loop c) .args .image)) (c .e .given .0 .1 .0)
 
 here : (c : tie.After-e Inv-loop μ-loop)
-    → getD (restOf (now (c .before .before .before .before .before .args .image)) (c .before .before .before .before .before .args .from)) (c .before .before .before .before .before .args .place) []
-    ≡ getD (bytes c ∷ rest c) (c .before .before .before .loop .due) []
-here c = let l = c .before .before .before .loop in l .inv .2 ∙ ap (λ (es : List (List ℕ)). getD es (l .due) []) (step c .rest)
+    → getD (restOf (now (start (at-loop c) .args .image)) (start (at-loop c) .args .from)) (start (at-loop c) .args .place) []
+    ≡ getD (bytes c ∷ rest c) (at-loop c .loop .due) []
+here c = let l = at-loop c .loop in l .inv .2 ∙ ap (λ (es : List (List ℕ)). getD es (l .due) []) (step c .rest)
 
 loop-holds : tie.Need-loop-holds Inv-loop μ-loop
 loop-holds c = (c .before .pre, omega arith, refl, omega arith)
@@ -64,7 +72,7 @@ loop-again c =
     let l = k .before .before .before in
     let m = step k in
     let long = ap (length {A = List ℕ}) (m .rest) in
-    (passes-more (now (l .before .before .args .image)) (l .loop .c) (l .loop .inv .0) _ _ m, omega arith, here k ∙ at-later [] (bytes k) (rest k) (l .loop .due) (c .if1 .left), omega arith)
+    (passes-more (l .loop .inv .0) m, omega arith, here k ∙ at-later [] (bytes k) (rest k) (l .loop .due) (c .if1 .left), omega arith)
 
 enum-told : tie.Need-enum-told Inv-loop μ-loop
 enum-told c = search needs
@@ -73,7 +81,7 @@ returns-2 : tie.Need-returns-2 Inv-loop μ-loop
 returns-2 c =
     let n = c .before .before in
     let l = n .before .loop in
-    let none = ended (now (n .before .before .before .args .image)) (l .c) (n .next .result) (n .next .ensures) (c .enum-told .given .1) in
+    let none = ended (now (n .before .before .before .args .image)) (l .c) (n .next .ensures) (c .enum-told .given .1) in
     let long = ap (length {A = List ℕ}) none in
     omega arith
 
@@ -84,8 +92,7 @@ returns-3 : tie.Need-returns-3 Inv-loop μ-loop
 returns-3 c =
     let n = c .before .before in
     let l = n .before .loop in
-    let image = now (n .before .before .before .args .image) in
-    absurd (never-fails image (l .c) (l .inv .0) (failed image (l .c) (n .next .result) (n .next .ensures) (c .enum-told2 .given .1)))
+    absurd (never-fails (l .inv .0) (n .next .ensures) (c .enum-told2 .given .1))
 
 pub entry-at-spec : {M : Type 1} → statement M
 entry-at-spec =

@@ -10,7 +10,7 @@ use Rattle.model.specs.Lists.{any, first, placeOf}
 use Rattle.model.specs.Directory.{named}
 use Rattle.directory.specs.Cursor.{restOf, Passes, ahead, bytesAt, Comes, Moves}
 use Rattle.directory.specs.Search.{FirstNamed}
-use Rattle.directory.proofs.Each.{moved, ended, failed, passes-more, never-fails}
+use Rattle.directory.proofs.Each.{moved, ended, passes-more, never-fails}
 use Rattle.directory.proofs.Tests.{any-pass, any-fail, first-pass, first-fail, place-pass, place-fail}
 use borrow.Author.Needs.{needs}
 use Rattle.directory.proofs.search.locate.Statement.{statement}
@@ -27,18 +27,26 @@ Inv-loop image name c₀ place₀ c place =
 abbrev μ-loop : tie.MeasureT-loop
 μ-loop image name c₀ place₀ c place = ahead c
 
+-- the loop's test, from the next entry on, and the start
+abbrev at-loop : tie.After-e Inv-loop μ-loop → tie.At-loop Inv-loop μ-loop
+at-loop c = c .before .before .before
+
+abbrev start : tie.At-loop Inv-loop μ-loop → tie.Start Inv-loop μ-loop
+start l = l .before .before .before
+
 -- the step to the next entry, its bytes, and the entries behind it
-step : (c : tie.After-e Inv-loop μ-loop) → Moves (now (c .before .before .before .before .before .before .args .image)) (c .before .before .before .loop .c) (c .e .given .0 .0) (c .e .given .0 .1 .0)
-step c = let n = c .before .before in moved (now (n .before .before .before .before .args .image)) (n .before .loop .c) (n .next .result) (n .next .ensures) _ _ (c .e .given .1)
+step : (c : tie.After-e Inv-loop μ-loop) → let l = at-loop c in
+    Moves (now (start l .args .image)) (l .loop .c) (c .e .given .0 .0) (c .e .given .0 .1 .0)
+step c = let n = c .before .before in moved (n .next .ensures) (c .e .given .1)
 
 abbrev bytes : tie.After-e Inv-loop μ-loop → List ℕ
-bytes c = bytesAt (now (c .before .before .before .before .before .before .args .image)) (c .e .given .0 .0)
+bytes c = bytesAt (now (start (at-loop c) .args .image)) (c .e .given .0 .0)
 
 abbrev rest : tie.After-e Inv-loop μ-loop → List (List ℕ)
-rest c = restOf (now (c .before .before .before .before .before .before .args .image)) (c .e .given .0 .1 .0)
+rest c = restOf (now (start (at-loop c) .args .image)) (c .e .given .0 .1 .0)
 
 abbrev test : tie.After-e Inv-loop μ-loop → List ℕ → Bool
-test c = named (now (c .before .before .before .before .before .before .args .name))
+test c = named (now (start (at-loop c) .args .name))
 
 loop-holds : tie.Need-loop-holds Inv-loop μ-loop
 loop-holds c = (c .before .before .pre, omega arith, refl, refl, omega arith, λ base blocks k. k)
@@ -59,8 +67,8 @@ returns c =
     let has = sym (c .before .has-name .ensures) ∙ c .if1 .taken in
     let m = step k in
     let place = ap (placeOf (test k)) (m .rest) ∙ place-pass (test k) (bytes k) (rest k) has in
-    let found : FirstNamed (now (k .before .before .before .before .before .before .args .image)) (now (k .before .before .before .before .before .before .args .name)) (restOf (now (k .before .before .before .before .before .before .args .image)) (k .before .before .before .before .before .before .args .from)) (l .place) (k .e .given .0 .0)
-    = record {
+    let a = start (at-loop k) .args in
+    let found : FirstNamed (now (a .image)) (now (a .name)) (restOf (now (a .image)) (a .from)) (l .place) (k .e .given .0 .0) = record {
       exists = l .inv .2 ∙ ap (any (test k)) (m .rest) ∙ any-pass (test k) (bytes k) (rest k) has;
       there = omega arith;
       bytes = sym (l .inv .3 ∙ ap (first (test k) []) (m .rest) ∙ first-pass (test k) (bytes k) (rest k) [] has);
@@ -80,11 +88,17 @@ loop-again c =
     let l = k .before .before .before in
     let not = sym (c .before .has-name .ensures) ∙ c .if1 .left in
     let m = step k in
-    let pass = passes-more (now (l .before .before .before .args .image)) (l .loop .c) (l .loop .inv .0) _ _ m in
+    let pass = passes-more (l .loop .inv .0) m in
     let exists = ap (any (test k)) (m .rest) ∙ any-fail (test k) (bytes k) (rest k) not in
     let same = ap (first (test k) []) (m .rest) ∙ first-fail (test k) (bytes k) (rest k) [] not in
-    let place = ap (placeOf (test k)) (m .rest) ∙ place-fail (test k) (bytes k) (rest k) not in
-    (pass, omega arith, l .loop .inv .2 ∙ exists, l .loop .inv .3 ∙ same, omega arith, λ base blocks h. m .comes base blocks (l .loop .inv .5 base blocks h))
+    let place = ap (placeOf (test k)) (m .rest) ∙ place-fail (test k) (bytes k) (rest k) not in (
+      pass,
+      omega arith,
+      l .loop .inv .2 ∙ exists,
+      l .loop .inv .3 ∙ same,
+      omega arith,
+      λ base blocks h. m .comes base blocks (l .loop .inv .5 base blocks h),
+    )
 
 enum-told : tie.Need-enum-told Inv-loop μ-loop
 enum-told c = search needs
@@ -95,7 +109,7 @@ returns-2 c =
     let n = c .before .before in
     let l = n .before .loop in
     let a = n .before .before .before .before .args in
-    let none = ended (now (a .image)) (l .c) (n .next .result) (n .next .ensures) (c .enum-told .given .1) in
+    let none = ended (now (a .image)) (l .c) (n .next .ensures) (c .enum-told .given .1) in
     (l .inv .2 ∙ ap (any (named (now (a .name)))) none, tt)
 
 enum-told-2 : tie.Need-enum-told-2 Inv-loop μ-loop
@@ -105,8 +119,7 @@ returns-3 : tie.Need-returns-3 Inv-loop μ-loop
 returns-3 c =
     let n = c .before .before in
     let l = n .before .loop in
-    let image = now (n .before .before .before .before .args .image) in
-    absurd (never-fails image (l .c) (l .inv .0) (failed image (l .c) (n .next .result) (n .next .ensures) (c .enum-told2 .given .1)))
+    absurd (never-fails (l .inv .0) (n .next .ensures) (c .enum-told2 .given .1))
 
 pub locate-spec : {M : Type 1} → statement M
 locate-spec =

@@ -2,7 +2,7 @@
 use native.Mathlib.Omega.{arith}
 use denote.Ref.{now}
 use Rattle.files.proofs.Octets.{octets}
-use Rattle.volume.proofs.Checked.{checked, unchecked}
+use Rattle.volume.proofs.Checked.{checked}
 use Rattle.volume.proofs.Stopped.{create-stopped}
 use borrow.Author.Needs.{needs}
 use Rattle.volume.proofs.changing.create.Statement.{statement}
@@ -23,8 +23,8 @@ returns c =
     let w = k .before .before in
     let b = w .before in
     let a = b .before .before .args in
-    let v = unchecked (now (a .image)) (k .check .result) (now (a .image)) (k .check .ensures) (c .if1 .taken) in
-    create-stopped (k .check .ensures .bytes) v (c .if1 .taken) (now (a .name)) (now (a .finder)) (a .created) (a .changed)
+    create-stopped (now (a .image)) (k .check .result) (k .check .ensures) (c .if1 .taken)
+    (now (a .name)) (now (a .finder)) (a .created) (a .changed)
     (octets _ (b .shared-slice-known .given)) (w .whole .ensures .1) (w .whole .ensures .0) (omega arith) (omega arith)
 
 serve-create-requires : tie.Need-serve-create-requires

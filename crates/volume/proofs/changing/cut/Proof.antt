@@ -2,7 +2,7 @@
 use native.Mathlib.Omega.{arith}
 use denote.Ref.{now}
 use Rattle.files.proofs.Octets.{octets}
-use Rattle.volume.proofs.Checked.{checked, unchecked}
+use Rattle.volume.proofs.Checked.{checked}
 use Rattle.volume.proofs.Stopped.{cut-stopped}
 use borrow.Author.Needs.{needs}
 use Rattle.volume.proofs.changing.cut.Statement.{statement}
@@ -19,8 +19,8 @@ returns c =
     let k = c .before .before in
     let b = k .before .before in
     let a = b .before .before .args in
-    let v = unchecked (now (a .image)) (k .check .result) (now (a .image)) (k .check .ensures) (c .if1 .taken) in
-    cut-stopped (k .check .ensures .bytes) v (c .if1 .taken) (now (a .name)) (a .fork) (a .size) (a .changed) (octets _ (b .shared-slice-known .given)) (omega arith) (omega arith)
+    cut-stopped (now (a .image)) (k .check .result) (k .check .ensures) (c .if1 .taken)
+    (now (a .name)) (a .fork) (a .size) (a .changed) (octets _ (b .shared-slice-known .given)) (omega arith) (omega arith)
 
 serve-cut-requires : tie.Need-serve-cut-requires
 serve-cut-requires c κs =

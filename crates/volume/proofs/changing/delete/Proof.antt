@@ -1,7 +1,7 @@
 -- `delete` meets its contract. Assumes nothing.
 use denote.Ref.{now}
 use Rattle.files.proofs.Octets.{octets}
-use Rattle.volume.proofs.Checked.{checked, unchecked}
+use Rattle.volume.proofs.Checked.{checked}
 use Rattle.volume.proofs.Stopped.{delete-stopped}
 use borrow.Author.Needs.{needs}
 use Rattle.volume.proofs.changing.delete.Statement.{statement}
@@ -18,8 +18,8 @@ returns c =
     let k = c .before .before in
     let b = k .before .before in
     let a = b .before .before .args in
-    let v = unchecked (now (a .image)) (k .check .result) (now (a .image)) (k .check .ensures) (c .if1 .taken) in
-    delete-stopped (k .check .ensures .bytes) v (c .if1 .taken) (now (a .name)) (octets _ (b .shared-slice-known .given))
+    delete-stopped (now (a .image)) (k .check .result) (k .check .ensures) (c .if1 .taken)
+    (now (a .name)) (octets _ (b .shared-slice-known .given))
 
 serve-delete-requires : tie.Need-serve-delete-requires
 serve-delete-requires c κs =

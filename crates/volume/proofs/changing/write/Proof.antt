@@ -2,7 +2,7 @@
 use native.Mathlib.Omega.{arith}
 use denote.Ref.{now}
 use Rattle.files.proofs.Octets.{octets}
-use Rattle.volume.proofs.Checked.{checked, unchecked}
+use Rattle.volume.proofs.Checked.{checked}
 use Rattle.volume.proofs.Stopped.{write-stopped}
 use borrow.Author.Needs.{needs}
 use Rattle.volume.proofs.changing.write.Statement.{statement}
@@ -19,8 +19,9 @@ returns c =
     let k = c .before .before in
     let b = k .before .before in
     let a = b .before .before .before .args in
-    let v = unchecked (now (a .image)) (k .check .result) (now (a .image)) (k .check .ensures) (c .if1 .taken) in
-    write-stopped (k .check .ensures .bytes) v (c .if1 .taken) (now (a .name)) (a .fork) (a .offset) (now (a .bytes)) (a .changed) (octets _ (b .before .shared-slice-known .given)) (omega arith) (octets _ (b .shared-slice-known2 .given)) (omega arith)
+    write-stopped (now (a .image)) (k .check .result) (k .check .ensures) (c .if1 .taken)
+    (now (a .name)) (a .fork) (a .offset) (now (a .bytes)) (a .changed)
+    (octets _ (b .before .shared-slice-known .given)) (omega arith) (octets _ (b .shared-slice-known2 .given)) (omega arith)
 
 serve-write-requires : tie.Need-serve-write-requires
 serve-write-requires c κs =

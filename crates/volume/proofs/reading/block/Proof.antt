@@ -2,7 +2,7 @@
 use native.Mathlib.Omega.{arith}
 use denote.Ref.{now}
 use Rattle.files.proofs.Octets.{octets}
-use Rattle.volume.proofs.Checked.{checked, unchecked}
+use Rattle.volume.proofs.Checked.{checked}
 use Rattle.volume.proofs.Stopped.{block-stopped}
 use borrow.Author.Needs.{needs}
 use Rattle.volume.proofs.reading.block.Statement.{statement}
@@ -15,8 +15,8 @@ returns : tie.Need-returns
 returns c =
     let k = c .before in
     let a = k .before .before .before .args in
-    let v = unchecked (now (a .image)) (k .check .result) (now (a .image)) (k .check .ensures) (c .if1 .taken) in
-    block-stopped (k .check .ensures .bytes) v (c .if1 .taken) (now (a .name)) (a .fork) (a .place) (octets _ (k .before .shared-slice-known2 .given)) (omega arith)
+    block-stopped (now (a .image)) (k .check .result) (k .check .ensures) (c .if1 .taken)
+    (now (a .name)) (a .fork) (a .place) (octets _ (k .before .shared-slice-known2 .given)) (omega arith)
 
 serve-block-requires : tie.Need-serve-block-requires
 serve-block-requires c κs =

@@ -1,7 +1,7 @@
 -- `entry` meets its contract. Assumes nothing.
 use native.Mathlib.Omega.{arith}
 use denote.Ref.{now}
-use Rattle.volume.proofs.Checked.{checked, unchecked}
+use Rattle.volume.proofs.Checked.{checked}
 use Rattle.volume.proofs.Stopped.{entry-stopped}
 use borrow.Author.Needs.{needs}
 use Rattle.volume.proofs.reading.entry.Statement.{statement}
@@ -17,8 +17,8 @@ returns : tie.Need-returns
 returns c =
     let k = c .before .before in
     let a = k .before .before .args in
-    let v = unchecked (now (a .image)) (k .check .result) (now (a .image)) (k .check .ensures) (c .before .if1 .taken) in
-    entry-stopped (k .check .ensures .bytes) v (c .before .if1 .taken) (a .place) (c .no-entry .result) (omega arith) (c .no-entry .ensures)
+    entry-stopped (now (a .image)) (k .check .result) (k .check .ensures) (c .before .if1 .taken)
+    (a .place) (c .no-entry .result) (omega arith) (c .no-entry .ensures)
 
 serve-entry-requires : tie.Need-serve-entry-requires
 serve-entry-requires c κs =

@@ -1,7 +1,7 @@
 -- `find` meets its contract. Assumes nothing.
 use denote.Ref.{now}
 use Rattle.files.proofs.Octets.{octets}
-use Rattle.volume.proofs.Checked.{checked, unchecked}
+use Rattle.volume.proofs.Checked.{checked}
 use Rattle.volume.proofs.Stopped.{find-stopped}
 use borrow.Author.Needs.{needs}
 use Rattle.volume.proofs.reading.find.Statement.{statement}
@@ -17,8 +17,8 @@ returns : tie.Need-returns
 returns c =
     let k = c .before .before in
     let a = k .before .before .before .args in
-    let v = unchecked (now (a .image)) (k .check .result) (now (a .image)) (k .check .ensures) (c .before .if1 .taken) in
-    find-stopped (k .check .ensures .bytes) v (c .before .if1 .taken) (now (a .name)) (c .no-entry .result) (octets _ (k .before .shared-slice-known2 .given)) (c .no-entry .ensures)
+    find-stopped (now (a .image)) (k .check .result) (k .check .ensures) (c .before .if1 .taken)
+    (now (a .name)) (c .no-entry .result) (octets _ (k .before .shared-slice-known2 .given)) (c .no-entry .ensures)
 
 serve-find-requires : tie.Need-serve-find-requires
 serve-find-requires c κs =

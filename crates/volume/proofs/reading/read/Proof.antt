@@ -2,7 +2,7 @@
 use native.Mathlib.Omega.{arith}
 use denote.Ref.{now}
 use Rattle.files.proofs.Octets.{octets}
-use Rattle.volume.proofs.Checked.{checked, unchecked}
+use Rattle.volume.proofs.Checked.{checked}
 use Rattle.volume.proofs.Stopped.{read-stopped}
 use borrow.Author.Needs.{needs}
 use Rattle.volume.proofs.reading.read.Statement.{statement}
@@ -16,8 +16,8 @@ returns c =
     let k = c .before in
     let b = k .before in
     let a = b .before .before .before .args in
-    let v = unchecked (now (a .image)) (k .check .result) (now (a .image)) (k .check .ensures) (c .if1 .taken) in
-    read-stopped (k .check .ensures .bytes) v (c .if1 .taken) (now (a .name)) (a .fork) (a .offset) (now (a .buffer)) (octets _ (b .before .shared-slice-known2 .given)) (omega arith) (octets _ (b .slice-known .given))
+    read-stopped (now (a .image)) (k .check .result) (k .check .ensures) (c .if1 .taken)
+    (now (a .name)) (a .fork) (a .offset) (now (a .buffer)) (octets _ (b .before .shared-slice-known2 .given)) (omega arith) (octets _ (b .slice-known .given))
 
 serve-read-requires : tie.Need-serve-read-requires
 serve-read-requires c κs =
