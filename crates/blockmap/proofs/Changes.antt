@@ -61,9 +61,11 @@ module _ (n : ℕ) (l : List ℕ) (k s i : ℕ) (small : n ≤ 640) (big : 2048 
       let e = mapEntry l in
       let r = runs-rest e n (k - suc i) z runs-z in
       chain-keep e (mapEntry (setEntry l z 1)) n (k - suc i) (e z) r (λ b p.
-      kept 1 b (omega arith) (chain-low e n (k - suc i) (e z) b r p) (other b z (chainBlocks e (k - suc i) (e z)) (chain-once e n (suc (k - suc i)) z z runs-z) p))
+      kept 1 b (omega arith) (chain-low e n (k - suc i) (e z) b r p)
+      (other b z (chainBlocks e (k - suc i) (e z)) (chain-once e n (suc (k - suc i)) z z runs-z) p))
 
-  pub rest-runs : (j y : ℕ) (m : List ℕ) (x : ℕ) → j ≡ suc i → y ≡ at (mapEntry l) s i → m ≡ setEntry l y 1 → x ≡ mapEntry l y → runs (mapEntry m) n (k - j) x ≡ true
+  pub rest-runs : (j y : ℕ) (m : List ℕ) (x : ℕ) → j ≡ suc i → y ≡ at (mapEntry l) s i → m ≡ setEntry l y 1 → x ≡ mapEntry l y
+      → runs (mapEntry m) n (k - j) x ≡ true
   rest-runs j y m x a b p q = rw (p, q, a, b) (rest-kept .0)
 
   pub short-leaves : (j y : ℕ) (m : List ℕ) (x : ℕ) → Bytes l → j ≡ suc i → y ≡ at (mapEntry l) s i → m ≡ setEntry l y 1 → x ≡ mapEntry l y
@@ -129,7 +131,8 @@ module _ (n : ℕ) (l : List ℕ) (i s x : ℕ) (small : n ≤ 640) (big : 2048 
   ext-free : freeFrom (mapEntry (setEntry l w x)) n x ≡ freeFrom (mapEntry l) n x
   ext-free = free-same (mapEntry l) (mapEntry (setEntry l w x)) n x (λ y p.
       elim (ℕ-discrete y w) [
-        | yes q ↦ let v : mapEntry (setEntry l w x) w ≡ x = mapEntry-setEntry l w x (omega (arith, z-high n l (suc i) s i small big chain (omega arith))) (omega (arith, f .high)) in
+        | yes q ↦ let v : mapEntry (setEntry l w x) w ≡ x = mapEntry-setEntry l w x (omega (arith, z-high n l (suc i) s i small big chain (omega arith)))
+            (omega (arith, f .high)) in
             rw q (ne-eqb (mapEntry (setEntry l w x) w) 0 (omega (arith, f .low)) ∙ sym (ne-eqb (mapEntry l w) 0 (omega (arith, last-entry))))
         | no q ↦ ap (λ v. eqb v 0) (still y (omega (arith, f .low)) q)
       ])

@@ -81,7 +81,8 @@ module _ (n b left : ℕ) (m l : List ℕ) (f : Linking n m b left l) where
       let e = mapEntry m in
       let e′ = mapEntry (setEntry m b x) in
       let kept : (y : ℕ) → x ≤ y → e′ y ≡ e y = λ y p.
-      mapEntry-setEntry-other m b x y (omega (arith, f .big, f .high)) (omega (arith, g .high)) (f .low) (omega (arith, f .low, g .low)) (omega (arith, g .low)) in
+      mapEntry-setEntry-other m b x y (omega (arith, f .big, f .high)) (omega (arith, g .high)) (f .low) (omega (arith, f .low, g .low))
+      (omega (arith, g .low)) in
       let same = free-same e e′ n x (λ y p. ap (λ v. eqb v 0) (kept y p)) in
       let next = free-hit e n x (omega (arith, g .high)) (g .free) in
       let all = here ∙ ap (λ r. b ∷ r) (g .first ∙ next) in
@@ -122,7 +123,8 @@ setEntry-same l b h =
     let p = (b - 2) % 2 in
     let x = getD l (entryByte b) 0 in
     let y = getD l (entryByte b + 1) 0 in
-    ap₂ (λ u v. set (set l (entryByte b) u) (entryByte b + 1) v) (first-same p x y (h (entryByte b)) (h (entryByte b + 1))) (second-same p x y (h (entryByte b)) (h (entryByte b + 1)))
+    ap₂ (λ u v. set (set l (entryByte b) u) (entryByte b + 1) v) (first-same p x y (h (entryByte b)) (h (entryByte b + 1)))
+    (second-same p x y (h (entryByte b)) (h (entryByte b + 1)))
     ∙ ap (λ m. set m (entryByte b + 1) y) (set-getD l (entryByte b) 0) ∙ set-getD l (entryByte b + 1) 0
 
 -- a chain with more blocks behind it: only its last entry and theirs are stored

@@ -290,5 +290,6 @@ module _ (n : ℕ) (small : n ≤ 640) where
         → fires9 e n a gs ≡ unowned e n (marked (replicate 642 0) (ownedBlocks e a gs))
     unfolding fires9 unowned
     fires9-unowned gs h =
-        any-same (λ b. ltb 0 (e b) && eqb (times b (ownedBlocks e a gs)) 0) (λ b. ltb 0 (e b) && eqb (getD (marked (replicate 642 0) (ownedBlocks e a gs)) b 0) 0) n 2
+        any-same (λ b. ltb 0 (e b) && eqb (times b (ownedBlocks e a gs)) 0)
+        (λ b. ltb 0 (e b) && eqb (getD (marked (replicate 642 0) (ownedBlocks e a gs)) b 0) 0) n 2
         (λ b low high. ap (λ x. ltb 0 (e b) && eqb x 0) (sym (claim-marks gs h b (omega arith))))

@@ -38,13 +38,15 @@ module _ (image : List ℕ) (start left size : ℕ) (s : Space) (h : Roomy image
   room-none p = rw p at h
 
 module _ (f : VolumeFacts) (image : List ℕ) (c : Cursor) (b : Begins (dirStart f .0) (dirLength f) c) (title size : ℕ) (q : size ≡ padded (51 + title)) where
-  pub adds : (base end : ℕ) → HasRoom image (c .base) (c .left) size base end → 1 ≤ title → title ≤ 255 → nextNumber f < 4294967295 → Adds f image title base end
+  pub adds : (base end : ℕ) → HasRoom image (c .base) (c .left) size base end → 1 ≤ title → title ≤ 255 → nextNumber f < 4294967295
+      → Adds f image title base end
   adds base end h s m n = record {
     left = c .left;
     count = b .left;
     some = s;
     most = m;
-    room = subst (λ (k : ℕ). HasRoom image (512 * dirStart f .0) (c .left) k base end) q (subst (λ (k : ℕ). HasRoom image k (c .left) size base end) (b .base) h);
+    room =
+        subst (λ (k : ℕ). HasRoom image (512 * dirStart f .0) (c .left) k base end) q (subst (λ (k : ℕ). HasRoom image k (c .left) size base end) (b .base) h);
     next = n;
   }
 
@@ -110,7 +112,8 @@ module _ {f : VolumeFacts} {image : List ℕ} (r : Readable f image) (octets : B
       create-last n =
           let l′ = rw (r .facts) at l in
           let n′ = rw (r .facts) at n in
-          refuse r octets (create name finder made changed) 19 fits (rw (l′, new .good, new .none, eq-eqb (nextNumber (factsOf image)) 4294967295 n′)) (λ z. omega arith)
+          refuse r octets (create name finder made changed) 19 fits (rw (l′, new .good, new .none, eq-eqb (nextNumber (factsOf image)) 4294967295 n′))
+          (λ z. omega arith)
 
       module _ (n : nextNumber f ≡ 4294967295 → ⊥) where
         pub create-full : (c : Cursor) → Begins (dirStart f .0) (dirLength f) c → (size : ℕ) → size ≡ padded (51 + length name)

@@ -2,11 +2,13 @@
 use mathlib.Core.Path.{refl}
 use Rattle.model.specs.Cases.{AllRight, end, _&_}
 use Rattle.model.proofs.Cases.{everything, row}
-use Rattle.cases.specs.More.{badVolumes, readings, changings, orders, borderDisk, foldings, sampled, wideDisk, wideGrown, contents, limited, Limits, MoreCases}
+use Rattle.cases.specs.More.{badVolumes, readings, changings, orders, borderDisk, foldings, sampled, wideDisk, wideGrown, contents, limited, Limits}
+use Rattle.cases.specs.More.{MoreCases}
 
 bad-volumes : AllRight badVolumes
 unfolding everything badVolumes
-bad-volumes = row & row & row & row & row & row & row & row & row & row & row & row & row & row & row & row & row & row & row & row & row & row & row & row & row & row & row & row & row & row & row & row & end
+bad-volumes = row & row & row & row & row & row & row & row & row & row & row & row & row & row & row & row & row & row & row & row & row & row & row & row &
+    row & row & row & row & row & row & row & row & end
 
 all-readings : AllRight readings
 unfolding everything readings

@@ -9,7 +9,9 @@ use Rattle.model.specs.Facts.{factsIn}
 use Rattle.model.specs.Check.{fires1, fires3}
 use Rattle.model.specs.Calls.{only, tellsFacts, tellsEntry, tellsBlock}
 use Rattle.model.specs.Calls.Call.{check, entry, find, block, read, create, write, cut, delete}
-use Rattle.model.specs.Cases.{Row, AllRight, bad, refused, info, disk, forkBytesOf, entryBytes, WEEK1, week1, RATES, NEWS, ratesEntry, hall, withBytes, withWeek1, sample, weekFacts, hallFacts, ratesFacts, newsEntry, staleDisk, deadDisk, fullWeek, resourceDisk, roomyDisk, longName, longDisk, twoBlocks, tellsRead, longFacts}
+use Rattle.model.specs.Cases.{Row, AllRight, bad, refused, info, disk, forkBytesOf, entryBytes, WEEK1, week1, RATES, NEWS, ratesEntry, hall, withBytes}
+use Rattle.model.specs.Cases.{withWeek1, sample, weekFacts, hallFacts, ratesFacts, newsEntry, staleDisk, deadDisk, fullWeek, resourceDisk, roomyDisk, longName}
+use Rattle.model.specs.Cases.{longDisk, twoBlocks, tellsRead, longFacts}
 use Rattle.model.specs.Cases.Row.{does}
 use Rattle.model.specs.declared.Fork.the-variants.{Data, Resource}
 

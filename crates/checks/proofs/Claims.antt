@@ -65,7 +65,8 @@ forks-none es h = ap forksIn h
 
 -- ---- checks 8 to 10
 
-module _ (f : VolumeFacts) (small : N f ≤ 640) (e : ℕ → ℕ) (gs : List ForkFacts) (r : Bool) (u : List ℕ) (c : Claims e (N f) (A f) (replicate 642 0) gs r u) where
+module _ (f : VolumeFacts) (small : N f ≤ 640) (e : ℕ
+    → ℕ) (gs : List ForkFacts) (r : Bool) (u : List ℕ) (c : Claims e (N f) (A f) (replicate 642 0) gs r u) where
   eight : fires8 e (N f) (A f) gs ≡ not r
   eight = fires8-claim (N f) small e (A f) gs ∙ ap not (sym (c .claimed))
 
@@ -89,9 +90,11 @@ module _ (f : VolumeFacts) (small : N f ≤ 640) (e : ℕ → ℕ) (gs : List Fo
       pub number-10 : (k ≡ freeCount f → ⊥) → 10 ≡ from8 f e gs
       unfolding from9 fires10
       number-10 z =
-          sym (past8 ∙ passes-here (fires9 e (N f) (A f) gs) 9 _ (nine ∙ h) ∙ fires-here _ 10 0 (ap not (ne-eqb (freeCount f) (length (freeBlocks e (N f))) (λ q. z (d ∙ sym q)))))
+          sym (past8 ∙ passes-here (fires9 e (N f) (A f) gs) 9 _ (nine ∙ h)
+          ∙ fires-here _ 10 0 (ap not (ne-eqb (freeCount f) (length (freeBlocks e (N f))) (λ q. z (d ∙ sym q)))))
 
       pub number-0 : k ≡ freeCount f → 0 ≡ from8 f e gs
       unfolding from9 fires10
       number-0 z =
-          sym (past8 ∙ passes-here (fires9 e (N f) (A f) gs) 9 _ (nine ∙ h) ∙ passes-here _ 10 0 (ap not (eq-eqb (freeCount f) (length (freeBlocks e (N f))) (sym z ∙ d))))
+          sym (past8 ∙ passes-here (fires9 e (N f) (A f) gs) 9 _ (nine ∙ h)
+          ∙ passes-here _ 10 0 (ap not (eq-eqb (freeCount f) (length (freeBlocks e (N f))) (sym z ∙ d))))

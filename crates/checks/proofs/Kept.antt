@@ -170,7 +170,8 @@ module _ (field : Field) (image table : List ℕ) (long : length table ≡ 6400)
   kept-more all left k = record {
     done = k .done ++ (bytesAt image e ∷ []);
     whole = k .whole ∙ sym (append-assoc (k .done) (bytesAt image e ∷ []) left);
-    apart = distinct-more (sameBy field) (bytesAt image e) (k .done) (k .apart) (each-fails (λ d. sameBy field d (bytesAt image e)) (each-map fresh (k .stored)));
+    apart =
+        distinct-more (sameBy field) (bytesAt image e) (k .done) (k .apart) (each-fails (λ d. sameBy field d (bytesAt image e)) (each-map fresh (k .stored)));
     stored = each-snoc (each-map grow (k .stored)) new;
     long = length-set table i (e .start + 1) ∙ long;
     filled = λ j h. filled j h (ℕ-discrete j i);
@@ -183,7 +184,8 @@ module _ (field : Field) (image table : List ℕ) (long : length table ≡ 6400)
           let o = kept-other j n in
           subst⁻¹ (λ (m : ℕ). Stands image (entryFrom image (m - 1))) o (k .filled j (omega arith))
 
-      known : (j : ℕ) → Occupied after j → (p : List ℕ → Bool) → p (occupant image after j) ≡ true → Dec (j ≡ i) → any p (k .done ++ (bytesAt image e ∷ [])) ≡ true
+      known : (j : ℕ) → Occupied after j → (p : List ℕ → Bool) → p (occupant image after j) ≡ true → Dec (j ≡ i)
+          → any p (k .done ++ (bytesAt image e ∷ [])) ≡ true
       known j h p q (yes r) =
           let bytes = ap (λ (n : ℕ). occupant image after n) r ∙ ap (bytesAt image) entry-here in
           any-last p (k .done) (bytesAt image e) (ap p (sym bytes) ∙ q)

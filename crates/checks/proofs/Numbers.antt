@@ -107,7 +107,8 @@ module _ (f : VolumeFacts) (image : List ℕ) where
       by-directory m d y = two-some (fires6 es) (fires7 (f .files) (nextNumber f) es) 6 7 (from8 f (mapEntry image) (forksIn es)) m d y ∙ sym map-past
 
       -- 8 to 10, or 0
-      pub by-forks : (m : ℕ) → m ≡ directoryNumber (f .files) (nextNumber f) es → m ≡ 0 → (k : ℕ) → k ≡ from8 f (mapEntry image) (forksIn es) → k ≡ from2 f image
+      pub by-forks : (m : ℕ) → m ≡ directoryNumber (f .files) (nextNumber f) es → m ≡ 0 → (k : ℕ) → k ≡ from8 f (mapEntry image) (forksIn es)
+          → k ≡ from2 f image
       unfolding from6 from7 directoryNumber
       by-forks m d y k r =
           let a = else-zero (fires6 es) 5 _ (sym d ∙ y) in

@@ -52,7 +52,8 @@ module _ (l : List ℕ) (q k : ℕ) where
 
   pub part-fork : (i : ℕ) → i + 10 ≤ k → forkIn (drop i (part q k l)) ≡ forkIn (drop (q + i) l)
   unfolding forkIn
-  part-fork i h = fork-are (drop (q + i) l) (forkIn (drop i (part q k l))) (within16 i 0 (omega arith)) (within32 i 2 (omega arith)) (within32 i 6 (omega arith))
+  part-fork i h =
+      fork-are (drop (q + i) l) (forkIn (drop i (part q k l))) (within16 i 0 (omega arith)) (within32 i 2 (omega arith)) (within32 i 6 (omega arith))
 
 -- ---- the fields of an entry
 

@@ -151,7 +151,14 @@ module _ (image : List ℕ) (c : Cursor) (f : CursorFits image c) where
               let s = size in
               let l = left-long in
               ap goodEntry (sym bytes-are) ∙ good-take b
-              ∙ rw (le-leb (entrySize b) (length b) (omega arith), here 50 (omega arith), here 1 (omega arith), ← titled, lt-ltb 0 n (omega arith), eq-eqb (byte image (c .base + c .at + 1)) 0 current)
+              ∙ rw (
+                le-leb (entrySize b) (length b) (omega arith),
+                here 50 (omega arith),
+                here 1 (omega arith),
+                ← titled,
+                lt-ltb 0 n (omega arith),
+                eq-eqb (byte image (c .base + c .at + 1)) 0 current,
+              )
 
           -- the block's entries from here on
           read-here : readAt 10 (blockOf image c) (c .at) ≡ part (c .base + c .at) (padded (51 + n)) image ∷ readAt 10 (blockOf image c) next
@@ -193,7 +200,9 @@ module _ (image : List ℕ) (c : Cursor) (f : CursorFits image c) where
                 before = k .before ++ (x ∷ []);
                 block = k .block;
                 count = k .count;
-                split = k .split ∙ ap (λ (es : List (List ℕ)). k .before ++ es) read-here ∙ sym (append-assoc (k .before) (x ∷ []) (readAt 10 (blockOf image c) next));
+                split =
+                    k .split ∙ ap (λ (es : List (List ℕ)). k .before ++ es) read-here
+                    ∙ sym (append-assoc (k .before) (x ∷ []) (readAt 10 (blockOf image c) next));
                 place = omega (arith, bytes-long);
               }
 

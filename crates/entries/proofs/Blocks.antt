@@ -81,14 +81,21 @@ clear-byte d at n i h l =
 
 -- ---- a part stored and cleared behind, as one block
 
-module _ (m : List ℕ) (base s n z : ℕ) (c : List ℕ) (low : base ≤ s) (full : s + n + z ≡ base + 512) (within : base + 512 ≤ length m) (enough : n ≤ length c) where
+module _ (m : List ℕ) (base s n z : ℕ) (c : List ℕ) (low : base ≤ s) (full : s + n + z ≡ base + 512) (within : base + 512 ≤ length m)
+    (enough : n ≤ length c) where
   abbrev inside : List ℕ
   inside = part base (s - base) m ++ (take n c ++ zeros z)
 
   inside-long : length inside ≡ 512
   inside-long =
       length-append (part base (s - base) m) (take n c ++ zeros z)
-      ∙ omega (arith, length-append (take n c) (zeros z), length-take-le (s - base) (drop base m) (omega (arith, length-drop base m)), length-take-le n c enough, length-replicate {A = ℕ} z 0)
+      ∙ omega (
+        arith,
+        length-append (take n c) (zeros z),
+        length-take-le (s - base) (drop base m) (omega (arith, length-drop base m)),
+        length-take-le n c enough,
+        length-replicate {A = ℕ} z 0,
+      )
 
   front : take s m ≡ take base m ++ part base (s - base) m
   front =
@@ -164,7 +171,8 @@ module _ (image : List ℕ) (base : ℕ) (e : EntryAt) (k : Block image base) (s
   behind-within = omega (arith, start-here, size-here, used-here)
 
   -- the later entries moved up, n bytes from place next, and z zeros behind them
-  module _ (next n z : ℕ) (at : base + (length (flat (l .before)) + length (bytesAt image e)) ≡ next) (moved : n ≡ length (flat (l .behind))) (clear : z + (e .start + n) ≡ base + 512) where
+  module _ (next n z : ℕ) (at : base + (length (flat (l .before)) + length (bytesAt image e)) ≡ next) (moved : n ≡ length (flat (l .behind)))
+      (clear : z + (e .start + n) ≡ base + 512) where
     removed-parts : filled (l .before ++ l .behind) ≡ part base (e .start - base) image ++ (part next n image ++ zeros z)
     removed-parts =
         let p = length (flat (l .before)) in
@@ -198,7 +206,8 @@ module _ (image : List ℕ) (base : ℕ) (e : EntryAt) (k : Block image base) (s
       let at : base + (p + w) ≡ next = next-place base p w (e .start) next start-here (hn ∙ ap (λ (j : ℕ). e .start + j) (sym size-here)) in
       let moved : n ≡ q = hm ∙ moved-long base p w q (readEnd b) next used-here at in
       let clear : z + (e .start + n) ≡ base + 512
-      = ap (λ (j : ℕ). j + (e .start + n)) hz ∙ back-again (e .start + n) (base + 512) (moved-short base p w q (readEnd b) (e .start) n used-here (end-within image base k) start-here moved) in
+      = ap (λ (j : ℕ). j + (e .start + n)) hz
+      ∙ back-again (e .start + n) (base + 512) (moved-short base p w q (readEnd b) (e .start) n used-here (end-within image base k) start-here moved) in
       py ∙ ap (λ (t : List ℕ). paste t (e .start + n) (zeros z) z) px
       ∙ removed-pastes next n z at moved clear
 
@@ -212,4 +221,10 @@ paste-next m s c d x y h px py =
     = sym (drop-drop (length d) (s + length c) (paste m s c (length c))) ∙ ap (drop (length d)) (drop-paste m s c (length c) (omega arith) (omega arith))
     ∙ drop-drop (length d) (s + length c) m ∙ ap (λ (k : ℕ). drop k m) n in
     py ∙ ap (λ (t : List ℕ). paste t (s + length c) d (length d)) px
-    ∙ rw (take-paste m s c (length c) (omega arith) (omega arith), back, take-all (length c) c (omega arith), take-all (length d) d (omega arith), take-all (length (c ++ d)) (c ++ d) (omega arith)) (simp append-assoc)
+    ∙ rw (
+      take-paste m s c (length c) (omega arith) (omega arith),
+      back,
+      take-all (length c) c (omega arith),
+      take-all (length d) d (omega arith),
+      take-all (length (c ++ d)) (c ++ d) (omega arith),
+    ) (simp append-assoc)

@@ -61,7 +61,8 @@ rewritten-still : (name : List ℕ) (g : List ℕ → List ℕ) (b : List ℕ) �
 unfolding rewrittenIn
 rewritten-still name g b c h = ap (λ (es : List (List ℕ)). flat es ++ rest b) (map-unnamed name g (entries b) h) ∙ sym (split b c .whole)
 
-rewritten-stills : (name : List ℕ) (g : List ℕ → List ℕ) (bs : List (List ℕ)) → Cleans bs → any (named name) (listing bs) ≡ false → map (rewrittenIn name g) bs ≡ bs
+rewritten-stills : (name : List ℕ) (g : List ℕ → List ℕ) (bs : List (List ℕ)) → Cleans bs → any (named name) (listing bs) ≡ false
+    → map (rewrittenIn name g) bs ≡ bs
 unfolding Cleans listing flat
 rewritten-stills name g [] c h = refl
 rewritten-stills name g (b ∷ bs) c h =
@@ -143,7 +144,8 @@ module _ (f : VolumeFacts) (image : List ℕ) (e : EntryAt) (l : Lies image (512
     unfolding any
     none-earlier =
         not-so (any (named name) earlier)
-        (λ h. so-not (any (named name) (bytesAt image e ∷ later)) (none-behind sameNames (named name) (both-named name) earlier (bytesAt image e ∷ later) all-differ h) (rw has))
+        (λ h. so-not (any (named name) (bytesAt image e ∷ later))
+        (none-behind sameNames (named name) (both-named name) earlier (bytesAt image e ∷ later) all-differ h) (rw has))
 
     none-later : any (named name) later ≡ false
     unfolding any
@@ -153,16 +155,22 @@ module _ (f : VolumeFacts) (image : List ℕ) (e : EntryAt) (l : Lies image (512
         (any-append (named name) earlier (bytesAt image e ∷ []) ∙ rw (has, or-true (any (named name) earlier)))
 
     pub none-ahead : any (named name) (listing ahead) ≡ false
-    none-ahead = or-false (any (named name) (listing ahead)) (any (named name) (l .before)) (sym (any-append (named name) (listing ahead) (l .before)) ∙ none-earlier) .0
+    none-ahead =
+        or-false (any (named name) (listing ahead)) (any (named name) (l .before)) (sym (any-append (named name) (listing ahead) (l .before)) ∙ none-earlier) .0
 
     pub none-before : any (named name) (l .before) ≡ false
-    none-before = or-false (any (named name) (listing ahead)) (any (named name) (l .before)) (sym (any-append (named name) (listing ahead) (l .before)) ∙ none-earlier) .1
+    none-before =
+        or-false (any (named name) (listing ahead)) (any (named name) (l .before)) (sym (any-append (named name) (listing ahead) (l .before)) ∙ none-earlier) .1
 
     pub none-after : any (named name) (l .behind) ≡ false
-    none-after = or-false (any (named name) (l .behind)) (any (named name) (listing following)) (sym (any-append (named name) (l .behind) (listing following)) ∙ none-later) .0
+    none-after =
+        or-false (any (named name) (l .behind)) (any (named name) (listing following)) (sym (any-append (named name) (l .behind) (listing following))
+        ∙ none-later) .0
 
     pub none-following : any (named name) (listing following) ≡ false
-    none-following = or-false (any (named name) (l .behind)) (any (named name) (listing following)) (sym (any-append (named name) (l .behind) (listing following)) ∙ none-later) .1
+    none-following =
+        or-false (any (named name) (l .behind)) (any (named name) (listing following)) (sym (any-append (named name) (l .behind) (listing following))
+        ∙ none-later) .1
 
     -- ---- write and cut
 
@@ -178,7 +186,11 @@ module _ (f : VolumeFacts) (image : List ℕ) (e : EntryAt) (l : Lies image (512
       unfolding rewritten Cleans
       rewritten-at g =
           ap (map (rewrittenIn name g)) blocks-are
-          ∙ rw (map-append (rewrittenIn name g) ahead (own ∷ following), rewritten-stills name g ahead (cleans .0) none-ahead, rewritten-stills name g following (cleans .1 .1) none-following)
+          ∙ rw (
+            map-append (rewrittenIn name g) ahead (own ∷ following),
+            rewritten-stills name g ahead (cleans .0) none-ahead,
+            rewritten-stills name g following (cleans .1 .1) none-following,
+          )
 
       pub entry-long : 52 ≤ length (bytesAt image e)
       unfolding every
@@ -230,24 +242,46 @@ module _ (f : VolumeFacts) (image : List ℕ) (e : EntryAt) (l : Lies image (512
       unfolding removedIn any
       own-removed =
           let alone : Alone (named name) (entries own)
-          = record { before = l .before; it = bytesAt image e; behind = l .behind; whole = l .split; passes = has; noneBefore = none-before; noneBehind = none-after } in
+          = record {
+            before = l .before;
+            it = bytesAt image e;
+            behind = l .behind;
+            whole = l .split;
+            passes = has;
+            noneBefore = none-before;
+            noneBehind = none-after;
+          } in
           let some : any (named name) (entries own) ≡ true
-          = ap (any (named name)) (l .split) ∙ any-append (named name) (l .before) (bytesAt image e ∷ l .behind) ∙ rw (has, or-true (any (named name) (l .before))) in
+          = ap (any (named name)) (l .split) ∙ any-append (named name) (l .before) (bytesAt image e ∷ l .behind)
+          ∙ rw (has, or-true (any (named name) (l .before))) in
           rw (some, removedIn) (ap filled (named-keep name (entries own) alone))
 
       removed-at : removed name (directoryBlocks f image) ≡ ahead ++ (filled (l .before ++ l .behind) ∷ following)
       unfolding removed
       removed-at =
           ap (map (removedIn name)) blocks-are
-          ∙ rw (map-append (removedIn name) ahead (own ∷ following), removed-stills name ahead none-ahead, removed-stills name following none-following, own-removed)
+          ∙ rw (
+            map-append (removedIn name) ahead (own ∷ following),
+            removed-stills name ahead none-ahead,
+            removed-stills name following none-following,
+            own-removed,
+          )
 
       -- what the code leaves is the model's change
-      pub entry-removed : 512 * dirStart f .0 + 512 * dirLength f ≤ length image → (after : List ℕ) → Removes image (512 * dirStart f .0 + 512 * l .index) e after
+      pub entry-removed : 512 * dirStart f .0 + 512 * dirLength f ≤ length image → (after : List ℕ)
+          → Removes image (512 * dirStart f .0 + 512 * l .index) e after
           → after ≡ withDirectory f image (removed name (directoryBlocks f image))
       unfolding lies-block
       entry-removed within after r =
           let at : 512 * dirStart f .0 + 512 * l .index ≡ 512 * (dirStart f .0 + length ahead) = omega (arith, ahead-count) in
           let short : length (flat (l .before ++ l .behind)) ≤ 512
-          = omega (arith, fills own own-clean (l .before) (bytesAt image e) (l .behind) (l .split), used-within own own-clean, length-append (flat (l .before)) (flat (l .behind)), ap (length {A = ℕ}) (flat-append (l .before) (l .behind))) in
+          = omega (
+            arith,
+            fills own own-clean (l .before) (bytesAt image e) (l .behind) (l .split),
+            used-within own own-clean,
+            length-append (flat (l .before)) (flat (l .behind)),
+            ap (length {A = ℕ}) (flat-append (l .before) (l .behind)),
+          ) in
           r lies-block ∙ ap (λ (p : ℕ). paste image p (filled (l .before ++ l .behind)) 512) at
-          ∙ sym (ap (withDirectory f image) removed-at ∙ one-block f image within ahead own following blocks-are (filled (l .before ++ l .behind)) (length-filled (l .before ++ l .behind) short))
+          ∙ sym (ap (withDirectory f image) removed-at
+          ∙ one-block f image within ahead own following blocks-are (filled (l .before ++ l .behind)) (length-filled (l .before ++ l .behind) short))

@@ -43,9 +43,11 @@ module _ (image : List ℕ) (c : Cursor) (p : Passes image c) (z : c .at ≡ 0) 
       let x = cutBlocks i d in
       let y = cutBlocks (c .left + 1 - (i + 1)) (drop (512 * (i + 1)) d) in
       let all : every goodEntry (listing (x ++ (part (512 * i) 512 d ∷ y))) ≡ true
-      = ap (λ (bs : List (List ℕ)). every goodEntry (listing bs)) (sym (cut-at i (c .left + 1) d (omega arith))) ∙ ap (every goodEntry) (sym rest-blocks) ∙ not-false _ (p .good) in
+      = ap (λ (bs : List (List ℕ)). every goodEntry (listing bs)) (sym (cut-at i (c .left + 1) d (omega arith))) ∙ ap (every goodEntry) (sym rest-blocks)
+      ∙ not-false _ (p .good) in
       let both = and-true (every goodEntry (listing x)) (every goodEntry (listing (part (512 * i) 512 d ∷ y)))
-      (sym (every-append goodEntry (listing x) (listing (part (512 * i) 512 d ∷ y))) ∙ ap (every goodEntry) (sym (listing-append x (part (512 * i) 512 d ∷ y))) ∙ all) in
+      (sym (every-append goodEntry (listing x) (listing (part (512 * i) 512 d ∷ y))) ∙ ap (every goodEntry) (sym (listing-append x (part (512 * i) 512 d ∷ y)))
+      ∙ all) in
       let own = and-true (every goodEntry (entries (part (512 * i) 512 d))) (every goodEntry (listing y))
       (sym (every-append goodEntry (entries (part (512 * i) 512 d)) (listing y)) ∙ both .1) in
       record {

@@ -109,7 +109,8 @@ module _ {f : VolumeFacts} {image : List ℕ} {e : EntryAt} (h : FileAt f image 
       ≡ withDirectory f base (rewritten (h .name) (withFork fork a logical bs changed) (directoryBlocks f image))
   held-stored fork a logical bs changed =
       stored (h .readable .accepted) (h .found) base b fork a logical bs changed
-      ∙ ap (λ (g : VolumeFacts). withDirectory g base (rewritten (h .name) (withFork fork a logical bs changed) (directoryBlocks g image))) (sym (h .readable .facts))
+      ∙ ap (λ (g : VolumeFacts). withDirectory g base (rewritten (h .name) (withFork fork a logical bs changed) (directoryBlocks g image)))
+      (sym (h .readable .facts))
 
   -- its directory block, counted from the entry's first byte
   pub held-block : Block base (e .start - e .start % 512)

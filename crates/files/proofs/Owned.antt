@@ -36,7 +36,8 @@ module _ {f : VolumeFacts} {image : List ℕ} {e : EntryAt} (h : FileAt f image 
       subst (λ (v : VolumeFacts). P v (bytesAt image e)) (sym (h .readable .facts))
       (subst (P (factsOf image)) (sym (named-bytes (h .readable) (h .found))) p)
 
-  pub at-held : (P : VolumeFacts → List ℕ → Type 0) → P (factsOf image) (theEntry image (h .readable .accepted) (h .name) (h .found .there .exists)) → P f (bytesAt image e)
+  pub at-held : (P : VolumeFacts → List ℕ → Type 0) → P (factsOf image) (theEntry image (h .readable .accepted) (h .name) (h .found .there .exists))
+      → P f (bytesAt image e)
   at-held P p = at-named P (subst (P (factsOf image)) (sym (the-entry image (h .readable .accepted) (h .name) (h .found .there .exists))) p)
 
   -- there is a file

@@ -38,10 +38,12 @@ fires-before false true rest z = refl
 fires-before false false rest z = absurd (z refl)
 
 module _ {f : VolumeFacts} {image : List ℕ} (r : Readable f image) (octets : Bytes image) where
-  pub refuse : (call : Call) (n : ℕ) → Fits call → n ≡ refuses call (knownIn image (nameOf call) (forkGiven call)) → (n ≡ 0 → ⊥) → Does call image (only n (lent call)) image
+  pub refuse : (call : Call) (n : ℕ) → Fits call → n ≡ refuses call (knownIn image (nameOf call) (forkGiven call)) → (n ≡ 0 → ⊥)
+      → Does call image (only n (lent call)) image
   refuse call n fits h z = does-refuse call image n octets fits (by-own call image n (accepted-verdict image (r .accepted)) h) z
 
-  pub serve : (call : Call) → Fits call → refuses call (knownIn image (nameOf call) (forkGiven call)) ≡ 0 → Does call image (reply call image) (change call image)
+  pub serve : (call : Call) → Fits call → refuses call (knownIn image (nameOf call) (forkGiven call)) ≡ 0
+      → Does call image (reply call image) (change call image)
   serve call fits h = does-serve call image octets fits (own-is image (r .accepted) call ∙ h)
 
   -- ---- entry
@@ -73,7 +75,8 @@ module _ {f : VolumeFacts} {image : List ℕ} (r : Readable f image) (octets : B
   -- ---- block
 
   module _ (name : List ℕ) (fork : Fork) (place : ℕ) (letters : Bytes name) (fits : place < 2 ^ 64) where
-    pub block-refused : (number : ℕ) → Missed image name number → Does (block name fork place) image (toldBlock (record { number = number; block = record { 0 = 0 } })) image
+    pub block-refused : (number : ℕ) → Missed image name number
+        → Does (block name fork place) image (toldBlock (record { number = number; block = record { 0 = 0 } })) image
     unfolding Fits refuses knownIn nameOf forkGiven only lent
     block-refused number h =
         refuse (block name fork place) number (letters, fits)
@@ -98,7 +101,8 @@ module _ {f : VolumeFacts} {image : List ℕ} (r : Readable f image) (octets : B
   -- ---- read
 
   module _ (name : List ℕ) (fork : Fork) (offset : ℕ) (buffer : List ℕ) (letters : Bytes name) (fits : offset < 2 ^ 64) (room : Bytes buffer) where
-    pub read-refused : (number : ℕ) → Missed image name number → Does (read name fork offset buffer) image (toldRead (record { number = number; count = 0 }) buffer) image
+    pub read-refused : (number : ℕ) → Missed image name number
+        → Does (read name fork offset buffer) image (toldRead (record { number = number; count = 0 }) buffer) image
     unfolding Fits refuses knownIn nameOf forkGiven only lent
     read-refused number h =
         refuse (read name fork offset buffer) number (letters, fits, room)

@@ -243,7 +243,8 @@ module _ (image : List ℕ) (s : LogicalBlock) (a : ℕ) (g : ForkFacts) (h : Co
     fork-onward b p =
         subst (λ i. Onward image s a (drop i (bytesOf s a image (chainBlocks (mapEntry image) (g .physical / a) (g .start .0)))) b (offset % a))
         (div-add-mod' offset a)
-        (rw (p .stands (g .physical / a) below) (onward-at image s a (h .n) (h .small) (h .room) (g .physical / a) (g .start .0) (offset / a) (offset % a) fork-runs below))
+        (rw (p .stands (g .physical / a) below) (onward-at image s a (h .n) (h .small) (h .room) (g .physical / a) (g .start .0) (offset / a)
+        (offset % a) fork-runs below))
 
 -- ---- an accepted image
 

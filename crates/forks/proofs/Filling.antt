@@ -7,7 +7,8 @@ use Prim.Native.Nat.{ℕ, zero, suc, _+_, _-_, _*_, _/_, _%_, _≤_, _<_}
 use native.Mathlib.Omega.{arith}
 use native.Mathlib.Nat.{add-assoc, mul-le-mul-right, div-add-mod', div-lt-iff-lt-mul}
 use lib.ListN.{length, getD, take, drop, length-drop, take-append-drop}
-use lib.Seq.{paste, paste-zero, take-at, drop-at, drop-drop, take-add, take-take, take-append-le, drop-append-le, take-append-add, drop-append-add, length-take-le, length-paste, take-length, drop-length}
+use lib.Seq.{paste, paste-zero, take-at, drop-at, drop-drop, take-add, take-take, take-append-le, drop-append-le, take-append-add, drop-append-add}
+use lib.Seq.{length-take-le, length-paste, take-length, drop-length}
 use Rattle.model.specs.Lists.{times}
 use Rattle.model.specs.Bytes.{part}
 use Rattle.model.specs.Map.{mapEntry, runs, chainBlocks}
@@ -113,10 +114,12 @@ module _ (s : LogicalBlock) (a : ℕ) where
       let r = paste (bytesOf s a l bs) 0 (drop k xs) (length (drop k xs)) in
       let c′ = subst (λ j. (o + k ≡ j) ⊎ (k ≡ length xs)) (sym e) c in
       ap (λ u. putBlocks s a (paste l q u a) bs (drop a u)) (paste-across x (bytesOf s a l bs) o k xs (omega arith) low c′)
-      ∙ ap₂ (λ u v. putBlocks s a u bs v) (paste-inner l q o k xs r (i .1) fits low) (drop-at (paste x o xs k) r a (length-paste x o xs k (omega arith) low ∙ e))
+      ∙ ap₂ (λ u v. putBlocks s a u bs v) (paste-inner l q o k xs r (i .1) fits low) (drop-at (paste x o xs k) r a (length-paste x o xs k (omega arith) low
+      ∙ e))
       ∙ ap (λ u. putBlocks s a m bs (paste u 0 (drop k xs) (length (drop k xs))))
       (sym (bytes-same s a m l bs (λ y p. part-clear l (q + o) xs k (omega arith) low (byteOf s a y) a
-      (clear (byteOf s a y) q o k fits (blocks-apart s a y b (w y (omega (arith, times-tail y b bs)) .0) (i .0) (other y b bs (omega (arith, times-head b bs)) p))))))
+      (clear (byteOf s a y) q o k fits (blocks-apart s a y b (w y (omega (arith, times-tail y b bs)) .0) (i .0)
+      (other y b bs (omega (arith, times-head b bs)) p))))))
 
   -- a write of nothing
   put-nothing : (l bs : List ℕ) → Inside s a l bs → putBlocks s a l bs (bytesOf s a l bs) ≡ l
@@ -153,7 +156,8 @@ pub record Due (first : List ℕ) (s : LogicalBlock) (a : ℕ) (image : List ℕ
 -- so it is at each place of a chain
 pub due-at : (image : List ℕ) (s : LogicalBlock) (a n : ℕ) → n ≤ 640 → 2048 ≤ 512 * s .0 → 512 * s .0 + n * a ≤ length image
     → (k t place within : ℕ) (xs : List ℕ) → runs (mapEntry image) n k t ≡ true → place < k → place * a + within + length xs ≤ k * a
-    → Due image s a image (getD (chainBlocks (mapEntry image) k t) place 0) within xs (putContent s a image (chainBlocks (mapEntry image) k t) (place * a + within) xs)
+    → Due image s a image (getD (chainBlocks (mapEntry image) k t) place 0) within xs
+    (putContent s a image (chainBlocks (mapEntry image) k t) (place * a + within) xs)
 unfolding chainBlocks
 due-at image s a n small low room zero t place within xs h l f = absurd (omega arith)
 due-at image s a n small low room (suc k) t zero within xs h l f =
@@ -232,7 +236,8 @@ module _ (first : List ℕ) (s : LogicalBlock) (a : ℕ) (image : List ℕ) (b w
   pub due-next : (j : ℕ) → within + j ≡ a → j < length xs
       → Due first s a (paste image (byteOf s a b + within) xs j) (mapEntry first b) 0 (drop j xs) result
   due-next j end more =
-      go (h .rest) (runs-rest (mapEntry first) (h .n) (h .rest) b (h .chain)) (omega (arith, length-drop j xs, h .fits)) (due-here j (omega arith) (omega arith) (inl end))
+      go (h .rest) (runs-rest (mapEntry first) (h .n) (h .rest) b (h .chain)) (omega (arith, length-drop j xs, h .fits))
+      (due-here j (omega arith) (omega arith) (inl end))
     where
       go : (k : ℕ) → runs (mapEntry first) (h .n) k (mapEntry first b) ≡ true → length (drop j xs) ≤ k * a
           → putContent s a (paste image (byteOf s a b + within) xs j) (chainBlocks (mapEntry first) k (mapEntry first b)) 0 (drop j xs) ≡ result
@@ -307,7 +312,9 @@ module _ (image : List ℕ) (s : LogicalBlock) (a t k : ℕ) (h : Fillable image
           → image ≡ putContent s a image (chainBlocks (mapEntry image) k t) offset xs
       go k c (x ∷ xs) e = absurd (omega arith)
       go zero c [] e = sym (content-none s a image [] offset (λ b p. absurd (omega arith)))
-      go (suc k) c [] e = sym (content-none s a image (chainBlocks (mapEntry image) (suc k) t) offset (chain-inside (mapEntry image) s a (h .n) (suc k) t image (c (omega arith)) (h .room)))
+      go (suc k) c [] e =
+          sym (content-none s a image (chainBlocks (mapEntry image) (suc k) t) offset
+          (chain-inside (mapEntry image) s a (h .n) (suc k) t image (c (omega arith)) (h .room)))
 
   module _ (some : 1 ≤ length xs) where
     fill-chain : runs (mapEntry image) (h .n) k t ≡ true
@@ -331,4 +338,5 @@ module _ (image : List ℕ) (s : LogicalBlock) (a t k : ℕ) (h : Fillable image
     fill-due b p =
         subst (λ i. Due image s a image b (offset % a) xs (putContent s a image (chainBlocks (mapEntry image) k t) i xs))
         (div-add-mod' offset a)
-        (rw (p .stands k below) (due-at image s a (h .n) (h .small) (h .low) (h .room) k t (offset / a) (offset % a) xs fill-chain below (omega (arith, div-add-mod' offset a))))
+        (rw (p .stands k below) (due-at image s a (h .n) (h .small) (h .low) (h .room) k t (offset / a) (offset % a) xs fill-chain below
+        (omega (arith, div-add-mod' offset a))))

@@ -57,7 +57,8 @@ alike-sets s l i (v ∷ vs) h k =
     (alike-set s l i v h (outside-head s i (length vs) k))
 
 -- directory blocks rewritten
-pub alike-paste : (s : LogicalBlock) (l : List ℕ) (q : ℕ) (c : List ℕ) (k : ℕ) → q + k ≤ length l → k ≤ length c → 2048 ≤ 512 * s .0 → Outside s q k → Alike s (paste l q c k) l
+pub alike-paste : (s : LogicalBlock) (l : List ℕ) (q : ℕ) (c : List ℕ) (k : ℕ) → q + k ≤ length l → k ≤ length c → 2048 ≤ 512 * s .0 → Outside s q k
+    → Alike s (paste l q c k) l
 alike-paste s l q c k f e h o = record { entries = part-clear l q c k f e 1088 960 (side o); blocks = drop-behind l q c k f e (512 * s .0) (low o) }
   where
     side : Outside s q k → (1088 + 960 ≤ q) ⊎ (q + k ≤ 1088)

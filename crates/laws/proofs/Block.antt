@@ -58,7 +58,9 @@ read-at zero b p l = refl
 read-at (suc k) b p l = go (inUse (drop p b)) refl (read-at k b (nextPlace b p) l)
   where
     go : (t : Bool) → inUse (drop p b) ≡ t → readAt k b (nextPlace b p) ≡ readFrom k (drop (nextPlace b p) b) → readAt (suc k) b p ≡ readFrom (suc k) (drop p b)
-    go true e ih = rw (ends-at b p l, e, readAt, readFrom) (ap (λ (r : List (List ℕ)). part p (entrySize (drop p b)) b ∷ r) (ih ∙ ap (readFrom k) (sym (drop-drop (entrySize (drop p b)) p b))))
+    go true e ih =
+        rw (ends-at b p l, e, readAt, readFrom) (ap (λ (r : List (List ℕ)). part p (entrySize (drop p b)) b ∷ r) (ih
+        ∙ ap (readFrom k) (sym (drop-drop (entrySize (drop p b)) p b))))
     go false e ih = rw (ends-at b p l, e, readAt, readFrom) refl
 
 pub read-all : (b : List ℕ) → length b ≤ 512 → entries b ≡ readFrom 10 b
@@ -175,7 +177,8 @@ take-used : (e : List ℕ) (n : ℕ) → 52 ≤ n → inUse (take n e) ≡ inUse
 unfolding inUse
 take-used e n h = rw (getD-take n e 0 0 (omega arith))
 
-left-more : (k : ℕ) (c : List ℕ) (es : List (List ℕ)) (t : List ℕ) → inUse c ≡ true → Left k (drop (entrySize c) c) es t → Left (suc k) c (take (entrySize c) c ∷ es) t
+left-more : (k : ℕ) (c : List ℕ) (es : List (List ℕ)) (t : List ℕ) → inUse c ≡ true → Left k (drop (entrySize c) c) es t
+    → Left (suc k) c (take (entrySize c) c ∷ es) t
 unfolding flat every
 left-more k c es t e d =
     let n = entrySize c in
@@ -192,7 +195,8 @@ unfolding readFrom flat every
 left zero c = (c, record { whole = refl; inuse = refl; ends = λ g l. absurd (omega arith) })
 left (suc k) c = go (inUse c) refl (left k (drop (entrySize c) c))
   where
-    go : (b : Bool) → inUse c ≡ b → (t : List ℕ) × Left k (drop (entrySize c) c) (readFrom k (drop (entrySize c) c)) t → (t : List ℕ) × Left (suc k) c (readFrom (suc k) c) t
+    go : (b : Bool) → inUse c ≡ b → (t : List ℕ) × Left k (drop (entrySize c) c) (readFrom k (drop (entrySize c) c)) t
+        → (t : List ℕ) × Left (suc k) c (readFrom (suc k) c) t
     go false e d = (c, rw (read-end (suc k) c e) (record { whole = refl; inuse = refl; ends = λ g l. e }))
     go true e d = (d .0, rw (read-more k c e) (left-more k c _ (d .0) e (d .1)))
 
@@ -268,7 +272,8 @@ unfolding removedIn readEnd
 removed-reads name b c = go (any (named name) (entries b)) refl
   where
     go : (t : Bool) → any (named name) (entries b) ≡ t
-        → Reads (elim t as (λ _. List ℕ) [ true ↦ filled (keep (λ e. not (named name e)) (entries b)) | false ↦ b ]) (keep (λ e. not (named name e)) (entries b))
+        → Reads (elim t as (λ _. List ℕ) [ true ↦ filled (keep (λ e. not (named name e)) (entries b)) | false ↦ b ])
+        (keep (λ e. not (named name e)) (entries b))
     go true e =
         filled-reads (keep (λ e. not (named name e)) (entries b))
         (keep-every (λ e. not (named name e)) sound (entries b) (split b c .sounds))

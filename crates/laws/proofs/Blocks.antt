@@ -130,14 +130,16 @@ pub record Inserted (e : List ℕ) (es fs : List (List ℕ)) : Type 0 where
 pub inserted-reordered : (e : List ℕ) (es fs : List (List ℕ)) → Inserted e es fs → Reordered fs (e ∷ es)
 inserted-reordered e es fs i = rw (i .old, i .new) (middle e (i .before) (i .behind))
 
-pub placed-inserted : (e : List ℕ) (bs : List (List ℕ)) → sound e ≡ true → Cleans bs → any (hasRoom (length e)) bs ≡ true → Inserted e (listing bs) (listing (placed e bs))
+pub placed-inserted : (e : List ℕ) (bs : List (List ℕ)) → sound e ≡ true → Cleans bs → any (hasRoom (length e)) bs ≡ true
+    → Inserted e (listing bs) (listing (placed e bs))
 unfolding Cleans placed any listing flat
 placed-inserted e [] s c h = absurd (let z : _≡_ {A = ℕ} 0 1 = cc in omega arith)
 placed-inserted e (b ∷ bs) s c h = go (hasRoom (length e) b) refl h (placed-inserted e bs s (c .1))
   where
     go : (t : Bool) → hasRoom (length e) b ≡ t → (t || any (hasRoom (length e)) bs) ≡ true
         → (any (hasRoom (length e)) bs ≡ true → Inserted e (listing bs) (listing (placed e bs)))
-        → Inserted e (entries b ++ listing bs) (listing (elim t as (λ _. List (List ℕ)) [ true ↦ filled (entries b ++ (e ∷ [])) ∷ bs | false ↦ b ∷ placed e bs ]))
+        → Inserted e (entries b ++ listing bs)
+        (listing (elim t as (λ _. List (List ℕ)) [ true ↦ filled (entries b ++ (e ∷ [])) ∷ bs | false ↦ b ∷ placed e bs ]))
     go true r h i = record { before = entries b; behind = listing bs; old = refl; new = rw (added-reads e b (c .0) s r .reads, append-assoc) }
     go false r h i =
         let j = i h in
@@ -148,7 +150,8 @@ placed-inserted e (b ∷ bs) s c h = go (hasRoom (length e) b) refl h (placed-in
           new = rw (j .new, append-assoc);
         }
 
-pub placed-listing : (e : List ℕ) (bs : List (List ℕ)) → sound e ≡ true → Cleans bs → any (hasRoom (length e)) bs ≡ true → Reordered (listing (placed e bs)) (e ∷ listing bs)
+pub placed-listing : (e : List ℕ) (bs : List (List ℕ)) → sound e ≡ true → Cleans bs → any (hasRoom (length e)) bs ≡ true
+    → Reordered (listing (placed e bs)) (e ∷ listing bs)
 placed-listing e bs s c h = inserted-reordered e (listing bs) (listing (placed e bs)) (placed-inserted e bs s c h)
 
 -- delete
@@ -174,7 +177,8 @@ rewritten-stays name g (b ∷ bs) k c =
     let i = rewritten-stays name g bs k (c .1) in
     record { clean = (rewritten-reads name g b k (c .0) .clean, i .clean); count = ap suc (i .count) }
 
-pub rewritten-listing : (name : List ℕ) (g : List ℕ → List ℕ) (bs : List (List ℕ)) → Keeps g → Cleans bs → listing (rewritten name g bs) ≡ map (onNamed name g) (listing bs)
+pub rewritten-listing : (name : List ℕ) (g : List ℕ → List ℕ) (bs : List (List ℕ)) → Keeps g → Cleans bs
+    → listing (rewritten name g bs) ≡ map (onNamed name g) (listing bs)
 unfolding Cleans rewritten listing flat
 rewritten-listing name g [] k c = refl
 rewritten-listing name g (b ∷ bs) k c = rw (rewritten-reads name g b k (c .0) .reads, map-append, rewritten-listing name g bs k (c .1))

@@ -24,12 +24,14 @@ unfolding refusal
 by-volume call image n h z = h ∙ sym (first-fires (verdict image) (refuses call (knownIn image (nameOf call) (forkGiven call))) (λ e. z (h ∙ e)))
 
 -- a call's own number, 0 too
-pub by-own : (call : Call) (image : List ℕ) (n : ℕ) → verdict image ≡ 0 → n ≡ refuses call (knownIn image (nameOf call) (forkGiven call)) → n ≡ refusal call image
+pub by-own : (call : Call) (image : List ℕ) (n : ℕ) → verdict image ≡ 0 → n ≡ refuses call (knownIn image (nameOf call) (forkGiven call))
+    → n ≡ refusal call image
 unfolding refusal
 by-own call image n v h = h ∙ sym (first-zero (verdict image) (refuses call (knownIn image (nameOf call) (forkGiven call))) v)
 
 -- the two kinds of return of every call
-pub does-refuse : (call : Call) (image : List ℕ) (n : ℕ) → Bytes image → Fits call → n ≡ refusal call image → (n ≡ 0 → ⊥) → Does call image (only n (lent call)) image
+pub does-refuse : (call : Call) (image : List ℕ) (n : ℕ) → Bytes image → Fits call → n ≡ refusal call image → (n ≡ 0 → ⊥)
+    → Does call image (only n (lent call)) image
 unfolding answer after
 does-refuse call image n b f h z = record { bytes = b; fits = f; answers = rw (← h) (simp (ne-eqb n 0 z)); leaves = rw (← h) (simp (ne-eqb n 0 z)) }
 

@@ -93,5 +93,13 @@ module _ (e : ℕ → ℕ) (n a : ℕ) (g : ForkFacts) where
   fields-good (b ∷ bs) pos h f =
       let p : 0 < g .physical = omega (arith, f .physical) in
       let l : g .logical ≤ g .physical = omega (arith, f .physical, f .logical) in
-      rw (ne-eqb (g .start .0) 0 (omega (arith, f .start, h .0)), lt-ltb 0 (g .physical) p, le-leb (g .logical) (g .physical) l, f .physical, mul-mod-left, mul-div-left, f .start)
+      rw (
+        ne-eqb (g .start .0) 0 (omega (arith, f .start, h .0)),
+        lt-ltb 0 (g .physical) p,
+        le-leb (g .logical) (g .physical) l,
+        f .physical,
+        mul-mod-left,
+        mul-div-left,
+        f .start,
+      )
       (linked-runs e n (b ∷ bs) h)

@@ -13,7 +13,8 @@ use Rattle.model.specs.Facts.{factsOf, dirStart, dirLength, N, A, S, nextNumber
 use Rattle.model.specs.Map.{mapEntry, freeBlocks, putChain, putFree}
 use Rattle.model.specs.Directory.{padded, directoryBlocks, listing, directory, numberIn, nameIn, inUse, forkOf, forkBlocks, named}
 use Rattle.model.specs.Check.{goodEntry, sameNames, fires6, fires7}
-use Rattle.model.specs.Calls.{hasRoom, placed, removed, onNamed, rewritten, withDirectory, withFiles, withNext, withFree, withFork, fewest, grown, needed, putContent, newEntry, created, written, shortened, deleted}
+use Rattle.model.specs.Calls.{hasRoom, placed, removed, onNamed, rewritten, withDirectory, withFiles, withNext, withFree, withFork, fewest, grown, needed}
+use Rattle.model.specs.Calls.{putContent, newEntry, created, written, shortened, deleted}
 use Rattle.model.specs.Bytes.{Within}
 use Rattle.model.specs.declared.VolumeFacts.{VolumeFacts}
 use Rattle.model.specs.declared.ForkFacts.{ForkFacts}
@@ -24,10 +25,12 @@ use Rattle.model.proofs.Check.{Passes, sound-facts}
 use Rattle.laws.proofs.Reorder.{Alone}
 use Rattle.laws.proofs.Block.{sound, Keeps}
 use Rattle.laws.proofs.Entry.{new-length, new-sound, new-number, new-name, fork-keeps}
-use Rattle.laws.proofs.Blocks.{Cleans, clean-whole, Stays, Inserted, inserted-reordered, placed-stays, placed-inserted, removed-stays, removed-listing, rewritten-stays, rewritten-listing}
+use Rattle.laws.proofs.Blocks.{Cleans, clean-whole, Stays, Inserted, inserted-reordered, placed-stays, placed-inserted, removed-stays, removed-listing}
+use Rattle.laws.proofs.Blocks.{rewritten-stays, rewritten-listing}
 use Rattle.laws.proofs.Kept.{one-named, create-checks, delete-checks, change-checks, names-differ}
 use Rattle.laws.proofs.Places.{OneBlock, placed-one, removed-one, rewritten-one}
-use Rattle.laws.proofs.Image.{facts-same, blocks-bytes, blocks-count, blocks-clean, Changed, changed-listing, create-changed, rewrite-changed, delete-changed, differs-last, one-half, files-half, next-half, free-half}
+use Rattle.laws.proofs.Image.{facts-same, blocks-bytes, blocks-count, blocks-clean, Changed, changed-listing, create-changed, rewrite-changed}
+use Rattle.laws.proofs.Image.{delete-changed, differs-last, one-half, files-half, next-half, free-half}
 
 -- what the checks say of the directory
 pub record Readable (image : List ℕ) : Type 0 where
@@ -131,18 +134,22 @@ module _ (image : List ℕ) (r : Readable image) where
     create-inserted = placed-inserted e blocks ok clean-now room
 
     pub create-step : numberIn e ≡ nextNumber (factsOf image) → any (named (nameIn e)) (directory image) ≡ false
-        → Stepped image image (listing (placed e (directoryBlocks (factsOf image) image))) (factsOf image .files + 1) (nextNumber (factsOf image) + 1) (freeCount (factsOf image))
+        → Stepped image image (listing (placed e (directoryBlocks (factsOf image) image))) (factsOf image .files + 1) (nextNumber (factsOf image) + 1)
+        (freeCount (factsOf image))
         (created (factsOf image) image e)
     unfolding created
     create-step n u =
         let bs = placed e blocks in
         let s = placed-stays e blocks ok clean-now in
-        stepped image (based-self image) bs s (placed-one e blocks ok clean-now room) (listing bs) (f .files + 1) (nextNumber f + 1) (freeCount f) (created f image e)
-        (create-changed f image (r .behind) (r .within) bs refl (clean-whole bs (s .clean)) (s .count ∙ blocks-count f image (r .within)) (f .files + 1) (nextNumber f + 1))
+        stepped image (based-self image) bs s (placed-one e blocks ok clean-now room) (listing bs) (f .files + 1) (nextNumber f + 1) (freeCount f)
+        (created f image e)
+        (create-changed f image (r .behind) (r .within) bs refl (clean-whole bs (s .clean)) (s .count
+        ∙ blocks-count f image (r .within)) (f .files + 1) (nextNumber f + 1))
         refl
         (create-checks (f .files) (nextNumber f) (directory image) (r .pass6) (r .pass7) e (listing bs)
         (inserted-reordered e (directory image) (listing bs) create-inserted) (and-true (inUse e) (goodEntry e) ok .1) n (r .numbered) u)
-        (λ h i₁ i₂ i₃. files-half (f .files + 1) (withNext (nextNumber f + 1) (withDirectory f image bs)) h i₁ ∙ next-half (nextNumber f + 1) (withDirectory f image bs) h i₂)
+        (λ h i₁ i₂ i₃. files-half (f .files + 1) (withNext (nextNumber f + 1) (withDirectory f image bs)) h i₁
+        ∙ next-half (nextNumber f + 1) (withDirectory f image bs) h i₂)
 
   module _ (base : List ℕ) (b : Based image base) (name : List ℕ) (h : any (named name) (directory image) ≡ true) (free : ℕ) where
     -- delete

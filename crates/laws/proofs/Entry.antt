@@ -14,7 +14,8 @@ use Rattle.model.specs.Check.{goodEntry}
 use Rattle.model.specs.Calls.{newEntry, withFork}
 use Rattle.model.specs.declared.Fork.{Fork}
 use Rattle.model.specs.declared.Fork.the-variants.{Data, Resource}
-use Rattle.laws.proofs.Stores.{sets-before, sets-behind, sets-in, drop-sets, take-sets, join16, join32, be32-same, be32-sets, getD-past, drop-past, drop-take-add}
+use Rattle.laws.proofs.Stores.{sets-before, sets-behind, sets-in, drop-sets, take-sets, join16, join32, be32-same, be32-sets, getD-past, drop-past}
+use Rattle.laws.proofs.Stores.{drop-take-add}
 use Rattle.laws.proofs.Block.{sound, Keeps}
 
 -- ---- a new entry
@@ -59,7 +60,8 @@ module _ (number : ℕ) (name finder : List ℕ) (created changed : ℕ) (f : le
 
   pub new-number : numberIn new ≡ number
   unfolding numberIn newEntry be32 be16
-  new-number = rw (getD-past finder behind 16 0 f, getD-past finder behind 16 1 f, getD-past finder behind 16 2 f, getD-past finder behind 16 3 f) (join32 number)
+  new-number =
+      rw (getD-past finder behind 16 0 f, getD-past finder behind 16 1 f, getD-past finder behind 16 2 f, getD-past finder behind 16 3 f) (join32 number)
 
   pub new-finder : finderIn new ≡ finder
   unfolding newEntry finderIn
@@ -67,11 +69,13 @@ module _ (number : ℕ) (name finder : List ℕ) (created changed : ℕ) (f : le
 
   pub new-created : be32 new 42 ≡ created
   unfolding newEntry be32 be16
-  new-created = rw (getD-past finder behind 16 24 f, getD-past finder behind 16 25 f, getD-past finder behind 16 26 f, getD-past finder behind 16 27 f) (join32 created)
+  new-created =
+      rw (getD-past finder behind 16 24 f, getD-past finder behind 16 25 f, getD-past finder behind 16 26 f, getD-past finder behind 16 27 f) (join32 created)
 
   pub new-changed : be32 new 46 ≡ changed
   unfolding newEntry be32 be16
-  new-changed = rw (getD-past finder behind 16 28 f, getD-past finder behind 16 29 f, getD-past finder behind 16 30 f, getD-past finder behind 16 31 f) (join32 changed)
+  new-changed =
+      rw (getD-past finder behind 16 28 f, getD-past finder behind 16 29 f, getD-past finder behind 16 30 f, getD-past finder behind 16 31 f) (join32 changed)
 
   new-text : drop 51 new ≡ name ++ zeros ((51 + length name) % 2)
   unfolding newEntry
@@ -93,7 +97,18 @@ module _ (number : ℕ) (name finder : List ℕ) (created changed : ℕ) (f : le
 pub fork-same : (g h : List ℕ) → ((k : ℕ) → k < 10 → byte g k ≡ byte h k) → forkIn g ≡ forkIn h
 unfolding forkIn be32 be16
 fork-same g h at =
-    rw (at 0 (omega arith), at 1 (omega arith), at 2 (omega arith), at 3 (omega arith), at 4 (omega arith), at 5 (omega arith), at 6 (omega arith), at 7 (omega arith), at 8 (omega arith), at 9 (omega arith))
+    rw (
+      at 0 (omega arith),
+      at 1 (omega arith),
+      at 2 (omega arith),
+      at 3 (omega arith),
+      at 4 (omega arith),
+      at 5 (omega arith),
+      at 6 (omega arith),
+      at 7 (omega arith),
+      at 8 (omega arith),
+      at 9 (omega arith),
+    )
 
 pub place-low : (fork : Fork) → 22 ≤ forkPlace fork
 place-low Data = omega arith
@@ -162,7 +177,8 @@ module _ (fork : Fork) (a logical : ℕ) (bs : List ℕ) (changed : ℕ) where
   unfolding finderIn withFork
   fork-finder e =
       sym (drop-take-add 2 16 (stored e))
-      ∙ ap (drop 2) (take-sets (u32 changed) (sets e (forkPlace fork) fields) 46 18 (omega arith) ∙ take-sets fields e (forkPlace fork) 18 (omega (arith, place-low fork)))
+      ∙ ap (drop 2) (take-sets (u32 changed) (sets e (forkPlace fork) fields) 46 18 (omega arith)
+      ∙ take-sets fields e (forkPlace fork) 18 (omega (arith, place-low fork)))
       ∙ drop-take-add 2 16 e
 
   pub fork-created : (e : List ℕ) → be32 (stored e) 42 ≡ be32 e 42

@@ -18,7 +18,8 @@ use Rattle.model.specs.Calls.{withDirectory, withFiles, withNext, withFree}
 use Rattle.model.specs.Bytes.{Within}
 use Rattle.model.specs.declared.VolumeFacts.{VolumeFacts}
 use Rattle.model.proofs.Lists.{flat-append}
-use Rattle.laws.proofs.Stores.{sets-before, sets-behind, drop-sets, paste-before, paste-behind, be16-same, be32-same, part-same, be16-drop, be32-drop, be16-sets, be32-sets, half-sets-before, half-sets-behind, half-paste-before, half-paste-behind}
+use Rattle.laws.proofs.Stores.{sets-before, sets-behind, drop-sets, paste-before, paste-behind, be16-same, be32-same, part-same, be16-drop, be32-drop}
+use Rattle.laws.proofs.Stores.{be16-sets, be32-sets, half-sets-before, half-sets-behind, half-paste-before, half-paste-behind}
 use Rattle.laws.proofs.Blocks.{Whole, cut-whole, cut-count, cut-front, cut-flat, flat-cut, whole-length, whole-append, whole-parts, Cleans, whole-clean}
 use Rattle.laws.proofs.Places.{OneBlock, sets-inside}
 
@@ -73,7 +74,8 @@ module _ (a b : List ℕ) (files next free : ℕ) (long : length a ≡ length b)
   }
 
 -- the counts as the image holds them
-counts-in : (image : List ℕ) → (be16 image 1036 ≡ factsOf image .files) × (be32 image 1054 ≡ nextNumber (factsOf image)) × (be16 image 1058 ≡ freeCount (factsOf image))
+counts-in : (image : List ℕ)
+    → (be16 image 1036 ≡ factsOf image .files) × (be32 image 1054 ≡ nextNumber (factsOf image)) × (be16 image 1058 ≡ freeCount (factsOf image))
 unfolding factsOf factsIn
 counts-in image = (sym (be16-drop 1024 image 12), sym (be32-drop 1024 image 30), sym (be16-drop 1024 image 34))
 
@@ -131,7 +133,8 @@ module _ (n : ℕ) (image : List ℕ) where
     next-facts =
         let c = counts-in image in
         counts-facts (withNext n image) image (factsOf image .files) n (freeCount (factsOf image)) next-length
-        (λ j p q. sets-before (u32 n) image 1054 j (omega arith)) (λ j p q. sets-before (u32 n) image 1054 j q) (λ j p q. sets-behind (u32 n) image 1054 j (omega arith))
+        (λ j p q. sets-before (u32 n) image 1054 j (omega arith)) (λ j p q. sets-before (u32 n) image 1054 j q)
+        (λ j p q. sets-behind (u32 n) image 1054 j (omega arith))
         (be16-same (withNext n image) image 1036 (λ j p q. sets-before (u32 n) image 1054 j (omega arith)) ∙ c .0)
         (be32-sets image 1054 n (omega arith))
         (be16-same (withNext n image) image 1058 (λ j p q. sets-behind (u32 n) image 1054 j (omega arith)) ∙ c .2)
@@ -141,7 +144,8 @@ module _ (n : ℕ) (image : List ℕ) where
     free-facts =
         let c = counts-in image in
         counts-facts (withFree n image) image (factsOf image .files) (nextNumber (factsOf image)) n free-length
-        (λ j p q. sets-before (u16 n) image 1058 j (omega arith)) (λ j p q. sets-before (u16 n) image 1058 j (omega arith)) (λ j p q. sets-behind (u16 n) image 1058 j (omega arith))
+        (λ j p q. sets-before (u16 n) image 1058 j (omega arith)) (λ j p q. sets-before (u16 n) image 1058 j (omega arith))
+        (λ j p q. sets-behind (u16 n) image 1058 j (omega arith))
         (be16-same (withFree n image) image 1036 (λ j p q. sets-before (u16 n) image 1058 j (omega arith)) ∙ c .0)
         (be32-same (withFree n image) image 1054 (λ j p q. sets-before (u16 n) image 1058 j (omega arith)) ∙ c .1)
         (be16-sets image 1058 n (omega arith))
@@ -149,7 +153,8 @@ module _ (n : ℕ) (image : List ℕ) where
 -- ---- what an image reads as, from its bytes
 
 -- the directory is in its own bytes
-pub blocks-same : (f : VolumeFacts) (a b : List ℕ) → take (512 * dirLength f) (drop (512 * dirStart f .0) a) ≡ take (512 * dirLength f) (drop (512 * dirStart f .0) b)
+pub blocks-same : (f : VolumeFacts) (a b : List ℕ)
+    → take (512 * dirLength f) (drop (512 * dirStart f .0) a) ≡ take (512 * dirLength f) (drop (512 * dirStart f .0) b)
     → directoryBlocks f a ≡ directoryBlocks f b
 unfolding directoryBlocks
 blocks-same f a b h =
@@ -179,7 +184,8 @@ module _ (f : VolumeFacts) (behind : 4 ≤ dirStart f .0) (n : ℕ) (image : Lis
   free-blocks = blocks-drop f (withFree n image) image (free-drop n image (512 * dirStart f .0) (omega arith))
 
 -- a block's map entry is in two bytes
-pub entry-same : (a c : List ℕ) (b : ℕ) → byte a (entryByte b) ≡ byte c (entryByte b) → byte a (entryByte b + 1) ≡ byte c (entryByte b + 1) → mapEntry a b ≡ mapEntry c b
+pub entry-same : (a c : List ℕ) (b : ℕ) → byte a (entryByte b) ≡ byte c (entryByte b) → byte a (entryByte b + 1) ≡ byte c (entryByte b + 1)
+    → mapEntry a b ≡ mapEntry c b
 unfolding mapEntry
 entry-same a c b p q = rw (p, q)
 
@@ -217,7 +223,12 @@ module _ (f : VolumeFacts) (image : List ℕ) (within : 512 * dirStart f .0 + 51
     pub with-blocks : directoryBlocks f (withDirectory f image bs) ≡ bs
     unfolding directoryBlocks
     with-blocks =
-        rw (spread, drop-at (take (512 * dirStart f .0) image) (flat bs ++ drop (512 * dirStart f .0 + 512 * dirLength f) image) (512 * dirStart f .0) (length-take-le (512 * dirStart f .0) image (omega arith)), ← n)
+        rw (
+          spread,
+          drop-at (take (512 * dirStart f .0) image) (flat bs ++ drop (512 * dirStart f .0 + 512 * dirLength f) image) (512 * dirStart f .0)
+              (length-take-le (512 * dirStart f .0) image (omega arith)),
+          ← n,
+        )
         (flat-cut bs _ w)
 
     pub with-length : length (withDirectory f image bs) ≡ length image
@@ -238,7 +249,8 @@ module _ (f : VolumeFacts) (image : List ℕ) (within : 512 * dirStart f .0 + 51
         let p : 512 * dirStart f .0 + 512 * dirLength f + (m - (512 * dirStart f .0 + 512 * dirLength f)) ≡ m = omega arith in
         ap (λ (k : ℕ). drop k (withDirectory f image bs)) (sym p)
         ∙ sym (drop-drop (m - (512 * dirStart f .0 + 512 * dirLength f)) (512 * dirStart f .0 + 512 * dirLength f) (withDirectory f image bs))
-        ∙ ap (drop (m - (512 * dirStart f .0 + 512 * dirLength f))) (drop-paste image (512 * dirStart f .0) (flat bs) (512 * dirLength f) (omega arith) (omega (arith, full)))
+        ∙ ap (drop (m - (512 * dirStart f .0 + 512 * dirLength f)))
+        (drop-paste image (512 * dirStart f .0) (flat bs) (512 * dirLength f) (omega arith) (omega (arith, full)))
         ∙ drop-drop (m - (512 * dirStart f .0 + 512 * dirLength f)) (512 * dirStart f .0 + 512 * dirLength f) image
         ∙ ap (λ (k : ℕ). drop k image) p
 
@@ -261,7 +273,8 @@ pub record Changed (f : VolumeFacts) (image : List ℕ) (bs : List (List ℕ)) (
   pub entry : (b : ℕ) → b ≤ 641 → mapEntry after b ≡ mapEntry image b
   pub tail : (m : ℕ) → 512 * dirStart f .0 + 512 * dirLength f ≤ m → drop m after ≡ drop m image
 
-module _ (f : VolumeFacts) (image : List ℕ) (behind : 4 ≤ dirStart f .0) (within : 512 * dirStart f .0 + 512 * dirLength f ≤ length image) (bs : List (List ℕ)) where
+module _ (f : VolumeFacts) (image : List ℕ) (behind : 4 ≤ dirStart f .0) (within : 512 * dirStart f .0 + 512 * dirLength f ≤ length image)
+    (bs : List (List ℕ)) where
   pub changed-listing : {files next free : ℕ} {after : List ℕ} → Changed f image bs files next free after → directory after ≡ listing bs
   unfolding directory
   changed-listing {files} {next} {free} {after} c =
@@ -343,7 +356,8 @@ paste-at p b t c a k h i j =
     rw (take-at p (b ++ t) a h, ← drop-drop k a (p ++ (b ++ t)), drop-at p (b ++ t) a h, drop-at b t k i, take-all k c (omega arith), append-assoc)
 
 -- block b of the directory
-module _ (f : VolumeFacts) (image : List ℕ) (within : 512 * dirStart f .0 + 512 * dirLength f ≤ length image) (x : List (List ℕ)) (b : List ℕ) (y : List (List ℕ))
+module _ (f : VolumeFacts) (image : List ℕ) (within : 512 * dirStart f .0 + 512 * dirLength f ≤ length image) (x : List (List ℕ)) (b : List ℕ)
+    (y : List (List ℕ))
     (h : directoryBlocks f image ≡ x ++ (b ∷ y)) where
   parts : Whole x × Whole (b ∷ y)
   parts = whole-parts x (b ∷ y) (rw h at (blocks-whole f image within))
@@ -379,7 +393,8 @@ module _ (f : VolumeFacts) (image : List ℕ) (within : 512 * dirStart f .0 + 51
       = ap (λ (t : List (List ℕ)). flat t ++ drop (512 * dirStart f .0 + 512 * dirLength f) image) (sym h)
       ∙ ap (λ (t : List ℕ). flat (directoryBlocks f image) ++ t) (sym (drop-drop (512 * dirLength f) (512 * dirStart f .0) image)) ∙ e in
       sym (take-append-drop (512 * dirStart f .0) image)
-      ∙ ap (λ (t : List ℕ). take (512 * dirStart f .0) image ++ t) (sym body ∙ ap (λ (t : List ℕ). t ++ drop (512 * dirStart f .0 + 512 * dirLength f) image) (flat-append x (b ∷ y)))
+      ∙ ap (λ (t : List ℕ). take (512 * dirStart f .0) image ++ t) (sym body
+      ∙ ap (λ (t : List ℕ). t ++ drop (512 * dirStart f .0 + 512 * dirLength f) image) (flat-append x (b ∷ y)))
       ∙ simp append-assoc
 
   pub block-within : 512 * (dirStart f .0 + length x) + 512 ≤ length image
@@ -400,7 +415,8 @@ module _ (f : VolumeFacts) (image : List ℕ) (within : 512 * dirStart f .0 + 51
 
   -- two stores in the block are stores in the image
   pub two-stores : (i j : ℕ) (vs ws : List ℕ) → i + length vs ≤ 512 → j + length ws ≤ 512
-      → withDirectory f image (x ++ (sets (sets b i vs) j ws ∷ y)) ≡ sets (sets image (512 * (dirStart f .0 + length x) + i) vs) (512 * (dirStart f .0 + length x) + j) ws
+      → withDirectory f image (x ++ (sets (sets b i vs) j ws ∷ y)) ≡ sets (sets image (512 * (dirStart f .0 + length x) + i) vs)
+      (512 * (dirStart f .0 + length x) + j) ws
   two-stores i j vs ws p q =
       let lb = length-sets b i vs in
       with-block (sets (sets b i vs) j ws) (length-sets (sets b i vs) j ws ∙ lb ∙ block-long)
@@ -419,7 +435,8 @@ half-outside-sets vs l p h o = go (decLt h (2 * p)) (decLe (2 * p + 2 * length v
     go (no a) (yes e) = half-sets-behind vs l p h e
     go (no a) (no e) = absurd (o (omega arith, omega arith))
 
-pub half-outside-paste : (d : List ℕ) (p : ℕ) (c : List ℕ) (k : ℕ) → p + k ≤ length d → k ≤ length c → (h : ℕ) → (Within p k h → ⊥) → half (paste d p c k) h ≡ half d h
+pub half-outside-paste : (d : List ℕ) (p : ℕ) (c : List ℕ) (k : ℕ) → p + k ≤ length d → k ≤ length c → (h : ℕ) → (Within p k h → ⊥)
+    → half (paste d p c k) h ≡ half d h
 half-outside-paste d p c k fits enough h o = go (decLt h (2 * p)) (decLe (2 * p + 2 * k) h)
   where
     go : Dec (h < 2 * p) → Dec (2 * p + 2 * k ≤ h) → half (paste d p c k) h ≡ half d h
@@ -440,7 +457,8 @@ module _ (n : ℕ) (image : List ℕ) (h : ℕ) where
   unfolding withFree
   free-half o = half-outside-sets (u16 n) image 1058 h o
 
-module _ (f : VolumeFacts) (image : List ℕ) (within : 512 * dirStart f .0 + 512 * dirLength f ≤ length image) (bs : List (List ℕ)) (o : OneBlock (directoryBlocks f image) bs) where
+module _ (f : VolumeFacts) (image : List ℕ) (within : 512 * dirStart f .0 + 512 * dirLength f ≤ length image) (bs : List (List ℕ))
+    (o : OneBlock (directoryBlocks f image) bs) where
   -- block `dirStart f .0 + length (o .before)` differs
   pub differs-last : dirStart f .0 + length (o .before) < dirStart f .0 + dirLength f
   differs-last = block-last f image within (o .before) (o .was) (o .behind) (o .old)
@@ -451,4 +469,5 @@ module _ (f : VolumeFacts) (image : List ℕ) (within : 512 * dirStart f .0 + 51
   pub one-half : (h : ℕ) → (Within (512 * (dirStart f .0 + length (o .before))) 512 h → ⊥) → half (withDirectory f image bs) h ≡ half image h
   one-half h k =
       ap (λ (t : List ℕ). half t h) one-paste
-      ∙ half-outside-paste image (512 * (dirStart f .0 + length (o .before))) (o .now) 512 (block-within f image within (o .before) (o .was) (o .behind) (o .old)) (omega (arith, o .long)) h k
+      ∙ half-outside-paste image (512 * (dirStart f .0 + length (o .before))) (o .now) 512
+      (block-within f image within (o .before) (o .was) (o .behind) (o .old)) (omega (arith, o .long)) h k

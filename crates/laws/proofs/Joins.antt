@@ -176,7 +176,8 @@ module _ (n : ℕ) (small : n ≤ 640) where
     pub once : Once r
 
   module _ (l : List ℕ) (big : 2048 ≤ length l) (p s : List (List ℕ)) where
-    pub write-sound : (bs r : List ℕ) → Sound (mapEntry l) n (p ++ (bs ∷ s)) → New (mapEntry l) r → Sound (mapEntry (putChain l (bs ++ r))) n (p ++ ((bs ++ r) ∷ s))
+    pub write-sound : (bs r : List ℕ) → Sound (mapEntry l) n (p ++ (bs ∷ s)) → New (mapEntry l) r
+        → Sound (mapEntry (putChain l (bs ++ r))) n (p ++ ((bs ++ r) ∷ s))
     unfolding Each held
     write-sound bs r h f = changed (mapEntry l) (mapEntry (putChain l (bs ++ r))) n p (bs ∷ []) ((bs ++ r) ∷ []) s h record {
       links = (putChain-links l (bs ++ r) big w d, tt);
@@ -215,7 +216,8 @@ module _ (n : ℕ) (small : n ≤ 640) where
       single = λ b. omega (arith, t b);
       fresh = λ b z q. absurd (omega (arith, times-append b bs r));
       freed = λ b low high q z. putFree-zero (putChain l bs) r b big′ wr (omega (arith, times-append b bs r));
-      others = λ b low high z q. putFree-other (putChain l bs) r b big′ wr low (omega (arith, times-append b bs r)) ∙ putChain-other l bs b big wb low (omega arith);
+      others =
+          λ b low high z q. putFree-other (putChain l bs) r b big′ wr low (omega (arith, times-append b bs r)) ∙ putChain-other l bs b big wb low (omega arith);
     }
       where
         u : (b : ℕ) → 1 ≤ times b bs + times b r → Used (mapEntry l) n b

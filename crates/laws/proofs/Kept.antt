@@ -93,13 +93,18 @@ pub create-listed : (files next : ℕ) (e : List ℕ) (es fs : List (List ℕ)) 
 unfolding every distinct goodNumber named
 create-listed files next e es fs s r g n p u =
     let later : (x : List ℕ) → goodNumber next x ≡ true → goodNumber (next + 1) x ≡ true
-    = λ x h. let a = and-true (ltb 0 (numberIn x)) (ltb (numberIn x) next) h in rw (a .0, lt-ltb (numberIn x) (next + 1) (omega (arith, ltb-true (numberIn x) next (a .1)))) in
+    = λ x h. let a =
+    and-true (ltb 0 (numberIn x)) (ltb (numberIn x) next) h in rw
+    (a .0, lt-ltb (numberIn x) (next + 1) (omega (arith, ltb-true (numberIn x) next (a .1)))) in
     let other : (x : List ℕ) → goodNumber next x ≡ true → sameNumbers e x ≡ false
-    = λ x h. let a = and-true (ltb 0 (numberIn x)) (ltb (numberIn x) next) h in ne-eqb (numberIn e) (numberIn x) (λ q. omega (arith, ltb-true (numberIn x) next (a .1))) in
+    = λ x h. let a =
+    and-true (ltb 0 (numberIn x)) (ltb (numberIn x) next) h in ne-eqb (numberIn e) (numberIn x) (λ q. omega (arith, ltb-true (numberIn x) next (a .1))) in
     record {
       clean = reordered-every goodEntry r ∙ rw (g, s .clean);
       counted = reordered-length r ∙ omega (arith, s .counted);
-      numbers = reordered-every (goodNumber (next + 1)) r ∙ rw (n, lt-ltb 0 next p, lt-ltb next (next + 1) (omega arith), every-weaker (goodNumber next) (goodNumber (next + 1)) later es (s .numbers));
+      numbers =
+          reordered-every (goodNumber (next + 1)) r
+          ∙ rw (n, lt-ltb 0 next p, lt-ltb next (next + 1) (omega arith), every-weaker (goodNumber next) (goodNumber (next + 1)) later es (s .numbers));
       numbersDiffer = reordered-distinct sameNumbers numbers-comm r ∙ rw (none-of (goodNumber next) (sameNumbers e) other es (s .numbers), s .numbersDiffer);
       namesDiffer = reordered-distinct sameNames names-comm r ∙ rw (u, s .namesDiffer);
     }
@@ -131,13 +136,15 @@ map-listed files next g es k s = record {
   namesDiffer = distinct-map sameNames sameNames g (λ x y. rw (k .name x, k .name y)) es ∙ s .namesDiffer;
 }
 
-pub change-listed : (files next : ℕ) (name : List ℕ) (g : List ℕ → List ℕ) (es : List (List ℕ)) → Keeps g → Listed files next es → Listed files next (map (onNamed name g) es)
+pub change-listed : (files next : ℕ) (name : List ℕ) (g : List ℕ → List ℕ) (es : List (List ℕ)) → Keeps g → Listed files next es
+    → Listed files next (map (onNamed name g) es)
 change-listed files next name g es k s = map-listed files next (onNamed name g) es (keeps-named name g k) s
 
 -- ---- the same of the checks themselves
 
 module _ (files next : ℕ) (es : List (List ℕ)) (h₆ : fires6 es ≡ false) (h₇ : fires7 files next es ≡ false) where
-  pub create-checks : (e : List ℕ) (fs : List (List ℕ)) → Reordered fs (e ∷ es) → goodEntry e ≡ true → numberIn e ≡ next → 1 ≤ next → any (named (nameIn e)) es ≡ false
+  pub create-checks : (e : List ℕ) (fs : List (List ℕ)) → Reordered fs (e ∷ es) → goodEntry e ≡ true → numberIn e ≡ next → 1 ≤ next
+      → any (named (nameIn e)) es ≡ false
       → (fires6 fs ≡ false) × (fires7 (files + 1) (next + 1) fs ≡ false)
   create-checks e fs r g n p u =
       let s = create-listed files next e es fs (listed files next es h₆ h₇) r g n p u in

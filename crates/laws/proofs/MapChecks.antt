@@ -114,7 +114,8 @@ reads e n a [] (bs ∷ bss) pos f l = absurd f
 reads e n a (g ∷ gs) [] pos f l = absurd f
 reads e n a (g ∷ gs) (bs ∷ bss) pos f l = rw (fields-blocks e n a g bs pos (l .0) (f .0), reads e n a gs bss pos (f .1) (l .1))
 
-goods-back : (e : ℕ → ℕ) (n a : ℕ) (gs : List ForkFacts) (bss : List (List ℕ)) → 0 < a → Fit a gs bss → Each (Linked e n) bss → Each (λ g. goodFork e n a g ≡ true) gs
+goods-back : (e : ℕ → ℕ) (n a : ℕ) (gs : List ForkFacts) (bss : List (List ℕ)) → 0 < a → Fit a gs bss → Each (Linked e n) bss
+    → Each (λ g. goodFork e n a g ≡ true) gs
 unfolding Fit Each
 goods-back e n a [] [] pos f l = tt
 goods-back e n a [] (bs ∷ bss) pos f l = absurd f
@@ -224,7 +225,8 @@ replaced e e′ n a free free′ p m m′ s x h f c k =
     }
 
 -- the sound map before it, in that form
-pub parted : (e : ℕ → ℕ) (n a free : ℕ) (p m s : List ForkFacts) → MapPasses e n a free (p ++ (m ++ s)) → Sound e n (lists e a p ++ (lists e a m ++ lists e a s))
+pub parted : (e : ℕ → ℕ) (n a free : ℕ) (p m s : List ForkFacts) → MapPasses e n a free (p ++ (m ++ s))
+    → Sound e n (lists e a p ++ (lists e a m ++ lists e a s))
 parted e n a free p m s h = rw (map-append (forkBlocks e a) p (m ++ s), map-append (forkBlocks e a) m s) at (to-lists e n a free (p ++ (m ++ s)) h .sound)
 
 -- ---- free blocks and all forks' blocks are N

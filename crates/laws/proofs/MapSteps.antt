@@ -26,7 +26,8 @@ use Rattle.laws.proofs.Sound.{held, held-append, Each, each-left, each-
 use Rattle.laws.proofs.Chains.{Fields, length-forkBlocks, fields-blocks}
 use Rattle.laws.proofs.Joins.{InMap, New, write-sound, cut-sound, delete-sound, lowest-free, part-used, one-in-map, one-once}
 use Rattle.laws.proofs.Joins.{length-putChain, length-putFree, putChain-drop, putFree-drop, putChain-take, putFree-take, putChain-half, putFree-half}
-use Rattle.laws.proofs.Content.{byteOf, Inside, bytes-drop, put-others, put-clear, put-half, length-put, content-own, length-bytes, bytes-append, overwritten-taken, bytes-cut, fewest-holds, fewest-least}
+use Rattle.laws.proofs.Content.{byteOf, Inside, bytes-drop, put-others, put-clear, put-half, length-put, content-own, length-bytes, bytes-append}
+use Rattle.laws.proofs.Content.{overwritten-taken, bytes-cut, fewest-holds, fewest-least}
 use Rattle.laws.proofs.MapChecks.{MapPasses, Fit, lists, Lists, free-length, to-lists, from-lists, fit-left, fit-right, reads, replaced, parted}
 use Rattle.laws.proofs.Alike.{Alike, alike-sound, alike-bytes, entries-frame, sound-frame}
 use Rattle.laws.proofs.Octets.{bytes-putChain, bytes-putFree, bytes-putContent}
@@ -191,7 +192,8 @@ unfolding forkBytes
 reads-as s a n l g bs pos h f = ap (λ x. take (g .logical) (bytesOf s a l x)) (fields-blocks (mapEntry l) n a g bs pos h f)
 
 -- forks whose blocks keep their bytes read as before
-kept : (s : LogicalBlock) (a n : ℕ) (l m : List ℕ) (gs : List ForkFacts) (bss : List (List ℕ)) → 0 < a → Fit a gs bss → Each (Linked (mapEntry l) n) bss → Each (Linked (mapEntry m) n) bss
+kept : (s : LogicalBlock) (a n : ℕ) (l m : List ℕ) (gs : List ForkFacts) (bss : List (List ℕ)) → 0 < a → Fit a gs bss → Each (Linked (mapEntry l) n) bss
+    → Each (Linked (mapEntry m) n) bss
     → ((os : List ℕ) → ((b : ℕ) → 1 ≤ times b os → 1 ≤ held b bss) → bytesOf s a m os ≡ bytesOf s a l os) → map (forkBytes s a m) gs ≡ map (forkBytes s a l) gs
 unfolding Fit Each held
 kept s a n l m [] [] pos f x y k = refl
@@ -228,7 +230,8 @@ around s a n free free′ l l″ p m m′ t x pos h k c =
     let dt = each-right (Linked (mapEntry l″) n) x lt (each-right (Linked (mapEntry l″) n) lp (x ++ lt) d) in
     record {
       passes = from-lists (mapEntry l″) n a free′ (p ++ (m′ ++ t)) _ pos k;
-      bytesBefore = kept s a n l l″ p lp pos fp (each-left (Linked e n) lp (lists e a m ++ lt) b) dp (λ os q. c os (λ i r. omega (arith, q i r, held-append i lp lt)));
+      bytesBefore =
+          kept s a n l l″ p lp pos fp (each-left (Linked e n) lp (lists e a m ++ lt) b) dp (λ os q. c os (λ i r. omega (arith, q i r, held-append i lp lt)));
       bytesBehind = kept s a n l l″ t lt pos ft
           (each-right (Linked e n) (lists e a m) lt (each-right (Linked e n) lp (lists e a m ++ lt) b)) dt
           (λ os q. c os (λ i r. omega (arith, q i r, held-append i lp lt)));
@@ -353,7 +356,8 @@ module _ (s : LogicalBlock) (a n free : ℕ) (l : List ℕ) (ar : Area s a n l) 
       pub write-frame : Framed s a (blocksAfter (mapEntry l) n a g o xs) l (afterWrite s a n l g o xs)
       write-frame = stored-frame s a n l ar (lists (mapEntry l) a p) (lists (mapEntry l) a t) old new old-sound new-free (g .logical) o xs fits at room
 
-      pub write-count : blockCount a (forkWith a (sizeAfter g o xs) (blocksAfter (mapEntry l) n a g o xs)) ≡ blockCount a g + needed a (sizeAfter g o xs) (blockCount a g)
+      pub write-count : blockCount a (forkWith a (sizeAfter g o xs) (blocksAfter (mapEntry l) n a g o xs)) ≡ blockCount a g + needed a (sizeAfter g o xs)
+          (blockCount a g)
       write-count = count-with a size (old ++ new) (ar .some) ∙ length-after ∙ ap (λ k. k + needed a size k) (length-forkBlocks (mapEntry l) a g)
 
       pub write-bytes : Bytes l → Bytes xs → Bytes (afterWrite s a n l g o xs)
@@ -362,7 +366,8 @@ module _ (s : LogicalBlock) (a n free : ℕ) (l : List ℕ) (ar : Area s a n l) 
           bytes-putContent s a (putChain l (old ++ new)) (old ++ new) o xs (bytes-putChain n (ar .few) l (old ++ new) w b) c
 
       module _ (l″ : List ℕ) (k : Alike s l″ (afterWrite s a n l g o xs)) where
-        pub write-changed : Changed s a n (free - newCount (mapEntry l) a g o xs) l l″ p (forkWith a (sizeAfter g o xs) (blocksAfter (mapEntry l) n a g o xs) ∷ []) t
+        pub write-changed : Changed s a n (free - newCount (mapEntry l) a g o xs) l l″ p
+            (forkWith a (sizeAfter g o xs) (blocksAfter (mapEntry l) n a g o xs) ∷ []) t
         write-changed =
             around s a n free (free - need) l l″ p (g ∷ []) (forkWith a size (old ++ new) ∷ []) t ((old ++ new) ∷ []) (ar .some) h (write-lists l″ k)
             λ os c. alike-bytes s a l″ image os k
@@ -373,7 +378,8 @@ module _ (s : LogicalBlock) (a n free : ℕ) (l : List ℕ) (ar : Area s a n l) 
         after-linked =
             each-right (Linked (mapEntry l″) n) (lists (mapEntry l) a p) ((old ++ new) ∷ lists (mapEntry l) a t) (write-lists l″ k .sound .linked) .0
 
-        pub write-blocks : forkBlocks (mapEntry l″) a (forkWith a (sizeAfter g o xs) (blocksAfter (mapEntry l) n a g o xs)) ≡ blocksAfter (mapEntry l) n a g o xs
+        pub write-blocks : forkBlocks (mapEntry l″) a (forkWith a (sizeAfter g o xs) (blocksAfter (mapEntry l) n a g o xs)) ≡ blocksAfter
+            (mapEntry l) n a g o xs
         write-blocks = fields-blocks (mapEntry l″) n a (forkWith a size (old ++ new)) (old ++ new) (ar .some) after-linked fields
 
         pub write-own : forkBytes s a l″ (forkWith a (sizeAfter g o xs) (blocksAfter (mapEntry l) n a g o xs)) ≡ overwritten (forkBytes s a l g) o xs
@@ -515,7 +521,8 @@ module _ (s : LogicalBlock) (a n free : ℕ) (l : List ℕ) (ar : Area s a n l) 
         around s a n free free l l″ p [] (blankFork ∷ blankFork ∷ []) t ([] ∷ [] ∷ []) (ar .some) h
         (replaced (mapEntry l) (mapEntry l″) n a free free p [] (blankFork ∷ blankFork ∷ []) t ([] ∷ [] ∷ []) h (none, (none, tt)) refl
         (alike-sound s n l″ l (lists (mapEntry l) a p ++ ([] ∷ [] ∷ lists (mapEntry l) a t)) (ar .few) k
-        (changed (mapEntry l) (mapEntry l) n (lists (mapEntry l) a p) [] ([] ∷ [] ∷ []) (lists (mapEntry l) a t) (parted (mapEntry l) n a free p [] t h) record {
+        (changed (mapEntry l) (mapEntry l) n (lists (mapEntry l) a p) [] ([] ∷ [] ∷ []) (lists (mapEntry l) a t)
+        (parted (mapEntry l) n a free p [] t h) record {
           links = (tt, (tt, tt));
           single = λ b. omega arith;
           fresh = λ b z q. absurd (omega arith);

@@ -69,7 +69,8 @@ octets-blocks : (s : LogicalBlock) (a : ℕ) (l bs : List ℕ) → Octets l → 
 unfolding bytesOf Each
 octets-blocks s a l [] h = tt
 octets-blocks s a l (b ∷ bs) h =
-    each-append (λ x. x < 256) (part (byteOf s a b) a l) (bytesOf s a l bs) (octets-take a (drop (byteOf s a b) l) (octets-drop (byteOf s a b) l h)) (octets-blocks s a l bs h)
+    each-append (λ x. x < 256) (part (byteOf s a b) a l) (bytesOf s a l bs) (octets-take a (drop (byteOf s a b) l) (octets-drop (byteOf s a b) l h))
+    (octets-blocks s a l bs h)
 
 octets-put : (s : LogicalBlock) (a : ℕ) (l bs c : List ℕ) → Octets l → Octets c → Octets (putBlocks s a l bs c)
 unfolding putBlocks

@@ -73,7 +73,8 @@ rewritten-still : (name : List ℕ) (g : List ℕ → List ℕ) (b : List ℕ) �
 unfolding rewrittenIn
 rewritten-still name g b c h = ap (λ (es : List (List ℕ)). flat es ++ rest b) (map-unnamed name g (entries b) h) ∙ sym (split b c .whole)
 
-rewritten-stills : (name : List ℕ) (g : List ℕ → List ℕ) (x : List (List ℕ)) → Cleans x → any (λ b. any (named name) (entries b)) x ≡ false → map (rewrittenIn name g) x ≡ x
+rewritten-stills : (name : List ℕ) (g : List ℕ → List ℕ) (x : List (List ℕ)) → Cleans x → any (λ b. any (named name) (entries b)) x ≡ false
+    → map (rewrittenIn name g) x ≡ x
 unfolding Cleans any
 rewritten-stills name g [] c h = refl
 rewritten-stills name g (b ∷ x) c h =
@@ -139,7 +140,11 @@ module _ (name : List ℕ) (bs : List (List ℕ)) (c : Cleans bs) (d : distinct 
         behind = f .behind;
         old = f .whole;
         new = ap (map (rewrittenIn name g)) (f .whole)
-            ∙ rw (map-append (rewrittenIn name g) (f .before) (f .it ∷ f .behind), rewritten-stills name g (f .before) (p .0) (f .noneBefore), rewritten-stills name g (f .behind) (p .1 .1) (f .noneBehind));
+            ∙ rw (
+              map-append (rewrittenIn name g) (f .before) (f .it ∷ f .behind),
+              rewritten-stills name g (f .before) (p .0) (f .noneBefore),
+              rewritten-stills name g (f .behind) (p .1 .1) (f .noneBehind),
+            );
         long = rewritten-reads name g (f .it) k (p .1 .0) .clean .long;
       }
 
@@ -185,7 +190,8 @@ module _ (b : List ℕ) (c : Clean b) (p : List (List ℕ)) (e : List ℕ) (q : 
       ∙ rw (drop-append-seam (flat p) (e ++ (flat q ++ rest b))) (take-append-seam e _)
 
   -- delete: the later entries move up
-  pub removed-bytes : filled (p ++ q) ≡ take (length (flat p)) b ++ (part (length (flat p) + length e) (readEnd b - (length (flat p) + length e)) b ++ zeros (512 - readEnd b + length e))
+  pub removed-bytes : filled (p ++ q) ≡ take (length (flat p)) b ++
+      (part (length (flat p) + length e) (readEnd b - (length (flat p) + length e)) b ++ zeros (512 - readEnd b + length e))
   unfolding filled
   removed-bytes =
       let n : readEnd b - (length (flat p) + length e) ≡ length (flat q) = omega (arith, fills) in
@@ -198,7 +204,16 @@ module _ (b : List ℕ) (c : Clean b) (p : List (List ℕ)) (e : List ℕ) (q : 
   unfolding rewrittenIn flat
   rewritten-bytes name g u v =
       ap (λ (es : List (List ℕ)). flat (map (onNamed name g) es) ++ rest b) h
-      ∙ rw (map-append (onNamed name g) p (e ∷ q), u, v, flat-append p (onNamed name g e ∷ q), append-assoc (flat p), append-assoc (onNamed name g e), before-bytes, behind-bytes)
+      ∙ rw (
+        map-append (onNamed name g) p (e ∷ q),
+        u,
+        v,
+        flat-append p (onNamed name g e ∷ q),
+        append-assoc (flat p),
+        append-assoc (onNamed name g e),
+        before-bytes,
+        behind-bytes,
+      )
 
   -- two stores in the entry are stores in the block
   pub rewritten-stores : (name : List ℕ) (g : List ℕ → List ℕ) → map (onNamed name g) p ≡ p → map (onNamed name g) q ≡ q

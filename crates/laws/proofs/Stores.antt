@@ -5,7 +5,8 @@ use mathlib.Core.List.{List, [], _∷_, _++_, append-assoc}
 use native.Mathlib.Omega.{arith}
 use native.Mathlib.Nat.{add-suc, suc-add, add-zero, zero-add, add-assoc}
 use lib.ListN.{length, set, take, drop, length-set, length-take, length-drop, List·getD-append}
-use lib.Seq.{sets, paste, getD-set-same, getD-set-other, drop-set-lt, take-set-le, getD-append-add, drop-append-add, take-nil, length-take-le, getD-take, getD-drop, drop-paste, take-append-le, take-take, ext-getD}
+use lib.Seq.{sets, paste, getD-set-same, getD-set-other, drop-set-lt, take-set-le, getD-append-add, drop-append-add, take-nil, length-take-le, getD-take}
+use lib.Seq.{getD-drop, drop-paste, take-append-le, take-take, ext-getD}
 use Rattle.model.specs.Bytes.{byte, be16, be32, u16, u32, part, half}
 
 -- ---- a run of stores
@@ -93,13 +94,20 @@ module _ (a b : List ℕ) (i : ℕ) where
 
   pub be32-same : ((j : ℕ) → i ≤ j → j < i + 4 → byte a j ≡ byte b j) → be32 a i ≡ be32 b i
   unfolding be32 be16
-  be32-same at = rw (at i (omega arith) (omega arith), at (i + 1) (omega arith) (omega arith), at (i + 2) (omega arith) (omega arith), at (i + 2 + 1) (omega arith) (omega arith))
+  be32-same at =
+      rw (
+        at i (omega arith) (omega arith),
+        at (i + 1) (omega arith) (omega arith),
+        at (i + 2) (omega arith) (omega arith),
+        at (i + 2 + 1) (omega arith) (omega arith),
+      )
 
   pub part-same : (k : ℕ) → length a ≡ length b → ((j : ℕ) → i ≤ j → j < i + k → byte a j ≡ byte b j) → part i k a ≡ part i k b
   part-same k l at =
       ext-getD 0 (part i k a) (part i k b)
       (rw (length-take, length-take, length-drop, length-drop, l))
-      (λ j h. let q : j < k = omega (arith, length-take k (drop i a)) in rw (getD-take k (drop i a) j 0 q, getD-take k (drop i b) j 0 q, getD-drop, getD-drop) (at (i + j) (omega arith) (omega arith)))
+      (λ j h. let q : j < k = omega (arith, length-take k (drop i a)) in rw (getD-take k (drop i a) j 0 q, getD-take k (drop i b) j 0 q, getD-drop, getD-drop)
+      (at (i + j) (omega arith) (omega arith)))
 
 pub be16-drop : (n : ℕ) (s : List ℕ) (i : ℕ) → be16 (drop n s) i ≡ be16 s (n + i)
 unfolding be16

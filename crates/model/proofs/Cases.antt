@@ -7,11 +7,21 @@ use lib.Seq.{drop-drop}
 use Rattle.model.specs.Lists.{every, any, distinct, keep, first, placeOf, flat, from, times, firstOr0, same}
 use Rattle.model.specs.Bytes.{part, be16, be32, firstOf}
 use Rattle.model.specs.Facts.{factsIn, factsOf, isLocked, noFacts}
-use Rattle.model.specs.Map.{joined, firstByte, secondByte, mapEntry, setEntry, isBlock, sortOf, isBad, runs, chainBlocks, freeBlocks, behind, putChain, putFree}
-use Rattle.model.specs.Directory.{padded, entrySize, inUse, endsAt, nextPlace, readAt, entries, readEnd, cutBlocks, directoryBlocks, listing, directory, numberIn, nameIn, finderIn, forkIn, forkOf, wide, entryIn, noEntry, flagsLock, forksIn, blockCount, forkBlocks, ownedBlocks, fold, folded, sameName, named}
-use Rattle.model.specs.Check.{fires1, fires2, fires3, fires4, fires5, goodEntry, fires6, goodNumber, fires7, emptyFork, fullFork, goodFork, sharesNone, fires8, fires9, fires10, from9, from8, from7, from6, from5, from4, from3, from2, verdict}
-use Rattle.model.specs.Calls.{nameOf, forkGiven, fewest, grown, needed, badName, refuses, entryNamed, hasRoom, knownIn, refusal, bytesOf, forkBytes, putBlocks, putContent, readCount, copied, filled, newEntry, placed, removedIn, removed, onNamed, rewrittenIn, rewritten, withFork, withDirectory, withFiles, withNext, withFree, created, written, shortened, deleted, change, only, tellsFacts, tellsEntry, tellsBlock, tellsBytes, reply, lent, answer, after}
-use Rattle.model.specs.Cases.{Plan, info, disk, entryBytes, weekEntry, ratesEntry, hallMap, hallPlan, hall, hallByRules, withBytes, sample, withWeek1, freeCount3, ring, info800, Row, Right, AllRight, end, _&_, weekFacts, pCases, PCases, hallFacts, ratesFacts, newsEntry, paddedDisk, staleDisk, deadDisk, fullWeek, resourceDisk, roomyDisk, longName, longDisk, twoBlocks, tellsRead, longFacts, telling, FurtherCases}
+use Rattle.model.specs.Map.{joined, firstByte, secondByte, mapEntry, setEntry, isBlock, sortOf, isBad, runs, chainBlocks, freeBlocks, behind, putChain}
+use Rattle.model.specs.Map.{putFree}
+use Rattle.model.specs.Directory.{padded, entrySize, inUse, endsAt, nextPlace, readAt, entries, readEnd, cutBlocks, directoryBlocks, listing, directory}
+use Rattle.model.specs.Directory.{numberIn, nameIn, finderIn, forkIn, forkOf, wide, entryIn, noEntry, flagsLock, forksIn, blockCount, forkBlocks}
+use Rattle.model.specs.Directory.{ownedBlocks, fold, folded, sameName, named}
+use Rattle.model.specs.Check.{fires1, fires2, fires3, fires4, fires5, goodEntry, fires6, goodNumber, fires7, emptyFork, fullFork, goodFork, sharesNone}
+use Rattle.model.specs.Check.{fires8, fires9, fires10, from9, from8, from7, from6, from5, from4, from3, from2, verdict}
+use Rattle.model.specs.Calls.{nameOf, forkGiven, fewest, grown, needed, badName, refuses, entryNamed, hasRoom, knownIn, refusal, bytesOf, forkBytes}
+use Rattle.model.specs.Calls.{putBlocks, putContent, readCount, copied, filled, newEntry, placed, removedIn, removed, onNamed, rewrittenIn, rewritten}
+use Rattle.model.specs.Calls.{withFork, withDirectory, withFiles, withNext, withFree, created, written, shortened, deleted, change, only, tellsFacts}
+use Rattle.model.specs.Calls.{tellsEntry, tellsBlock, tellsBytes, reply, lent, answer, after}
+use Rattle.model.specs.Cases.{Plan, info, disk, entryBytes, weekEntry, ratesEntry, hallMap, hallPlan, hall, hallByRules, withBytes, sample, withWeek1}
+use Rattle.model.specs.Cases.{freeCount3, ring, info800, Row, Right, AllRight, end, _&_, weekFacts, pCases, PCases, hallFacts, ratesFacts, newsEntry}
+use Rattle.model.specs.Cases.{paddedDisk, staleDisk, deadDisk, fullWeek, resourceDisk, roomyDisk, longName, longDisk, twoBlocks, tellsRead, longFacts}
+use Rattle.model.specs.Cases.{telling, FurtherCases}
 use Rattle.model.specs.Cases.Row.{does, passes3, gives3}
 use Rattle.model.specs.Calls.Call.{check, entry, find, block, read, create, write, cut, delete}
 
@@ -21,10 +31,15 @@ unfolding every any distinct keep first placeOf flat from times firstOr0 same
     be16 be32 firstOf
     factsIn factsOf isLocked noFacts
     joined firstByte secondByte mapEntry setEntry isBlock sortOf isBad runs chainBlocks freeBlocks behind putChain putFree
-    padded entrySize inUse endsAt nextPlace readAt entries readEnd cutBlocks directoryBlocks listing directory numberIn nameIn finderIn forkIn forkOf wide entryIn noEntry flagsLock forksIn blockCount forkBlocks ownedBlocks fold folded sameName named
-    fires1 fires2 fires3 fires4 fires5 goodEntry fires6 goodNumber fires7 emptyFork fullFork goodFork sharesNone fires8 fires9 fires10 from9 from8 from7 from6 from5 from4 from3 from2 verdict
-    nameOf forkGiven fewest grown needed badName refuses entryNamed hasRoom knownIn refusal bytesOf forkBytes putBlocks putContent readCount copied filled newEntry placed removedIn removed onNamed rewrittenIn rewritten withFork withDirectory withFiles withNext withFree created written shortened deleted change only tellsFacts tellsEntry tellsBlock tellsBytes reply lent answer after
-    info disk entryBytes weekEntry ratesEntry hallMap hallPlan hall hallByRules withBytes sample withWeek1 freeCount3 ring info800 Right weekFacts hallFacts ratesFacts newsEntry paddedDisk staleDisk deadDisk fullWeek resourceDisk roomyDisk longName longDisk twoBlocks tellsRead longFacts
+    padded entrySize inUse endsAt nextPlace readAt entries readEnd cutBlocks directoryBlocks listing directory numberIn nameIn finderIn forkIn forkOf wide
+    entryIn noEntry flagsLock forksIn blockCount forkBlocks ownedBlocks fold folded sameName named
+    fires1 fires2 fires3 fires4 fires5 goodEntry fires6 goodNumber fires7 emptyFork fullFork goodFork sharesNone fires8 fires9 fires10 from9 from8 from7 from6
+    from5 from4 from3 from2 verdict
+    nameOf forkGiven fewest grown needed badName refuses entryNamed hasRoom knownIn refusal bytesOf forkBytes putBlocks putContent readCount copied filled
+    newEntry placed removedIn removed onNamed rewrittenIn rewritten withFork withDirectory withFiles withNext withFree created written shortened deleted change
+    only tellsFacts tellsEntry tellsBlock tellsBytes reply lent answer after
+    info disk entryBytes weekEntry ratesEntry hallMap hallPlan hall hallByRules withBytes sample withWeek1 freeCount3 ring info800 Right weekFacts hallFacts
+    ratesFacts newsEntry paddedDisk staleDisk deadDisk fullWeek resourceDisk roomyDisk longName longDisk twoBlocks tellsRead longFacts
 everything = tt
 
 -- the facts are those of the 64 bytes at 1024

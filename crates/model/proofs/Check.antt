@@ -189,7 +189,9 @@ module _ (f : VolumeFacts) (es : List (List ℕ)) where
       let c = and-true (distinct sameNumbers es) (distinct sameNames es) (b .1) in
       record {
         count = eqb-true (length es) (f .files) (a .0);
-        each = λ i l. good-entry (nextNumber f) (getD es i []) (every-at goodEntry [] es (not-false _ h₆) i l) (every-at (goodNumber (nextNumber f)) [] es (b .0) i l);
+        each =
+            λ i l. good-entry (nextNumber f) (getD es i []) (every-at goodEntry [] es (not-false _ h₆) i l)
+            (every-at (goodNumber (nextNumber f)) [] es (b .0) i l);
         numbersDiffer = λ i j k l. eqb-false _ _ (distinct-at sameNumbers [] es (c .0) i j k l);
         namesDiffer = λ i j k l q. so-not _ (distinct-at sameNames [] es (c .1) i j k l) (eq-same-name (nameIn (getD es i [])) (nameIn (getD es j [])) q);
       }
@@ -257,7 +259,12 @@ module _ (e : ℕ → ℕ) (n a : ℕ) (g : ForkFacts) where
   fork-good s =
       elim (ℕ-discrete (g .start .0) 0) [
         | yes q ↦ rw (eq-eqb (g .start .0) 0 q, eq-eqb (g .logical) 0 (s .empty q .0)) (eq-eqb (g .physical) 0 (s .empty q .1))
-        | no q ↦ rw (ne-eqb (g .start .0) 0 q, lt-ltb 0 (g .physical) (s .some q), eq-eqb (g .physical % a) 0 (s .whole q), le-leb (g .logical) (g .physical) (s .within q))
+        | no q ↦ rw (
+          ne-eqb (g .start .0) 0 q,
+          lt-ltb 0 (g .physical) (s .some q),
+          eq-eqb (g .physical % a) 0 (s .whole q),
+          le-leb (g .logical) (g .physical) (s .within q),
+        )
             (chain-runs e n (s .chain q))
       ]
 
@@ -267,7 +274,8 @@ module _ (e : ℕ → ℕ) (n a : ℕ) (g : ForkFacts) where
   fork-block b s p =
       elim (ℕ-discrete (g .start .0) 0) [
         | yes q ↦ absurd (omega (arith, empty-none e a g b (s .empty q .1)))
-        | no q ↦ let r = chain-runs e n (s .chain q) in (chain-low e n (g .physical / a) (g .start .0) b r p, chain-high e n (g .physical / a) (g .start .0) b r p)
+        | no q ↦ let r = chain-runs e n (s .chain q) in
+            (chain-low e n (g .physical / a) (g .start .0) b r p, chain-high e n (g .physical / a) (g .start .0) b r p)
       ]
 
   pub fork-once : (b : ℕ) → SoundFork e n a g → times b (forkBlocks e a g) ≤ 1

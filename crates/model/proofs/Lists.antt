@@ -214,7 +214,8 @@ module _ {A : Type 0} where
   at-any p d [] h = refl
   at-any p d (x ∷ xs) h = rw (h 0 (omega arith)) (at-any p d xs (λ i l. h (suc i) (omega arith)))
 
-  pub distinct-at : (same : A → A → Bool) (d : A) (xs : List A) → distinct same xs ≡ true → (i j : ℕ) → i < j → j < length xs → same (getD xs i d) (getD xs j d) ≡ false
+  pub distinct-at : (same : A → A → Bool) (d : A) (xs : List A) → distinct same xs ≡ true → (i j : ℕ) → i < j → j < length xs
+      → same (getD xs i d) (getD xs j d) ≡ false
   unfolding distinct
   distinct-at same d [] h i j k l = absurd (omega arith)
   distinct-at same d (x ∷ xs) h i zero k l = absurd (omega arith)
@@ -223,7 +224,8 @@ module _ {A : Type 0} where
   distinct-at same d (x ∷ xs) h (suc i) (suc j) k l =
       distinct-at same d xs (and-true (not (any (same x) xs)) (distinct same xs) h .1) i j (omega arith) (omega arith)
 
-  pub at-distinct : (same : A → A → Bool) (d : A) (xs : List A) → ((i j : ℕ) → i < j → j < length xs → same (getD xs i d) (getD xs j d) ≡ false) → distinct same xs ≡ true
+  pub at-distinct : (same : A → A → Bool) (d : A) (xs : List A) → ((i j : ℕ) → i < j → j < length xs → same (getD xs i d) (getD xs j d) ≡ false)
+      → distinct same xs ≡ true
   unfolding distinct
   at-distinct same d [] h = refl
   at-distinct same d (x ∷ xs) h =

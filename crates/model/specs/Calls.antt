@@ -10,7 +10,8 @@ use Rattle.model.specs.Lists.{any, keep, first, placeOf, flat, firstOr0}
 use Rattle.model.specs.Bytes.{byte, u16, u32, zeros, part, Bytes, firstOf}
 use Rattle.model.specs.Facts.{factsOf, dirStart, dirLength, N, A, S, nextNumber, freeCount, isLocked, blockByte, noFacts}
 use Rattle.model.specs.Map.{mapEntry, freeBlocks, putChain, putFree}
-use Rattle.model.specs.Directory.{padded, entries, readEnd, directoryBlocks, directory, forkPlace, forkOf, entryIn, noEntry, flagsLock, blockCount, forkBlocks, named}
+use Rattle.model.specs.Directory.{padded, entries, readEnd, directoryBlocks, directory, forkPlace, forkOf, entryIn, noEntry, flagsLock, blockCount}
+use Rattle.model.specs.Directory.{forkBlocks, named}
 use Rattle.model.specs.Check.{orElse, verdict}
 use Rattle.model.specs.declared.VolumeFacts.{VolumeFacts}
 use Rattle.model.specs.declared.DirectoryEntry.{DirectoryEntry}

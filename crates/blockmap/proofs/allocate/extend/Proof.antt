@@ -63,7 +63,13 @@ module _ (c : tie.After-next-free) where
   some = omega arith
 
   enough : start .args .need ≤ length (freeFrom (mapEntry (now (start .args .image))) (start .args .n) (c .next-free .result .0))
-  enough = omega (arith, start .pre .3, ap length (free-from (mapEntry (now (start .args .image))) (start .args .n) (c .next-free .result .0) (c .next-free .ensures)))
+  enough =
+      omega (
+        arith,
+        start .pre .3,
+        ap length (free-from (mapEntry (now (start .args .image))) (start .args .n) (c .next-free .result .0)
+            (c .next-free .ensures)),
+      )
 
 join-free-requires : tie.Need-join-free-requires
 join-free-requires c κs =

@@ -14,8 +14,10 @@ use Rattle.blockmap.proofs.chain.claim_fork.Tie as tie
 
 returns : tie.Need-returns
 returns c =
-    let a = c .before .before .before .args in
-    (refused (entryIn (now (a .entries))) (a .n) (a .a) (now (a .marks)) (a .g) (λ s. c .if2 .taken (s .empty (c .before .if1 .taken) .0)), λ r. absurd (false≢true r))
+    let a = c .before .before .before .args in (
+      refused (entryIn (now (a .entries))) (a .n) (a .a) (now (a .marks)) (a .g) (λ s. c .if2 .taken (s .empty (c .before .if1 .taken) .0)),
+      λ r. absurd (false≢true r),
+    )
 
 returns-2 : tie.Need-returns-2
 returns-2 c =
@@ -27,29 +29,38 @@ returns-2 c =
 
 returns-3 : tie.Need-returns-3
 returns-3 c =
-    let a = c .before .before .before .args in
-    (refused (entryIn (now (a .entries))) (a .n) (a .a) (now (a .marks)) (a .g) (λ s. omega (arith, s .some (c .before .if1 .left))), λ r. absurd (false≢true r))
+    let a = c .before .before .before .args in (
+      refused (entryIn (now (a .entries))) (a .n) (a .a) (now (a .marks)) (a .g) (λ s. omega (arith, s .some (c .before .if1 .left))),
+      λ r. absurd (false≢true r),
+    )
 
 rem-if4 : tie.Need-rem-if4
 rem-if4 c = search needs
 
 returns-4 : tie.Need-returns-4
 returns-4 c =
-    let a = c .before .before .before .before .args in
-    (refused (entryIn (now (a .entries))) (a .n) (a .a) (now (a .marks)) (a .g) (λ s. c .if4 .taken (s .whole (c .before .before .if1 .left))), λ r. absurd (false≢true r))
+    let a = c .before .before .before .before .args in (
+      refused (entryIn (now (a .entries))) (a .n) (a .a) (now (a .marks)) (a .g) (λ s. c .if4 .taken (s .whole (c .before .before .if1 .left))),
+      λ r. absurd (false≢true r),
+    )
 
 returns-5 : tie.Need-returns-5
 returns-5 c =
-    let a = c .before .before .before .before .before .args in
-    (refused (entryIn (now (a .entries))) (a .n) (a .a) (now (a .marks)) (a .g) (λ s. omega (arith, s .within (c .before .before .before .if1 .left))), λ r. absurd (false≢true r))
+    let a = c .before .before .before .before .before .args in (
+      refused (entryIn (now (a .entries))) (a .n) (a .a) (now (a .marks)) (a .g) (λ s. omega (arith, s .within (c .before .before .before .if1 .left))),
+      λ r. absurd (false≢true r),
+    )
 
 div-k : tie.Need-div-k
 div-k c = search needs
 
 returns-6 : tie.Need-returns-6
 returns-6 c =
-    let a = c .before .before .before .before .before .before .args in
-    (refused (entryIn (now (a .entries))) (a .n) (a .a) (now (a .marks)) (a .g) (λ s. omega (arith, sound-most (entryIn (now (a .entries))) (a .n) (a .a) (now (a .marks)) (a .g) s (c .before .before .before .before .if1 .left))), λ r. absurd (false≢true r))
+    let a = c .before .before .before .before .before .before .args in (
+      refused (entryIn (now (a .entries))) (a .n) (a .a) (now (a .marks)) (a .g)
+          (λ s. omega (arith, sound-most (entryIn (now (a .entries))) (a .n) (a .a) (now (a .marks)) (a .g) s (c .before .before .before .before .if1 .left))),
+      λ r. absurd (false≢true r),
+    )
 
 cast-walk : tie.Need-cast-walk
 cast-walk c = search needs

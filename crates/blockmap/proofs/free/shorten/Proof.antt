@@ -103,7 +103,8 @@ returns-3 c =
     let ld = c .before .before .before .before .before .before .before .before .load in
     c .before .before .free-chain2 .ensures
     ∙ short-leaves (a .n) l (a .k) (a .s .0) (a .keep - 1) (p .0) (p .1) (chain d) (within d)
-    (a .keep) (d .block-at .result .0) (st .last .0) (ld .result) (bytes (d .before .before .before .before)) (count d) (stands d) (st .ensures) (ld .ensures .0)
+    (a .keep) (d .block-at .result .0) (st .last .0) (ld .result) (bytes (d .before .before .before .before)) (count d) (stands d) (st .ensures)
+    (ld .ensures .0)
 
 pub shorten-spec : {M : Type 1} → statement M
 shorten-spec =

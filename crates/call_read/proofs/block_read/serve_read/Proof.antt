@@ -39,7 +39,8 @@ returns c =
     let e = k .before .before in
     let b = e .before .before .before in
     let s = b .before .before .before in
-    read-beyond (s .pre) (octets _ (b .before .before .shared-slice-known .given)) (now (s .args .name)) (s .args .fork) (s .args .offset) (now (s .args .buffer)) (octets _ (b .before .shared-slice-known2 .given)) (omega arith) (octets _ (b .slice-known .given))
+    read-beyond (s .pre) (octets _ (b .before .before .shared-slice-known .given)) (now (s .args .name)) (s .args .fork) (s .args .offset)
+    (now (s .args .buffer)) (octets _ (b .before .shared-slice-known2 .given)) (omega arith) (octets _ (b .slice-known .given))
     _ _ (file e) (k .read-fork .result) (k .read-fork .ensures) (c .if1 .taken)
 
 copy-fork-requires : tie.Need-copy-fork-requires
@@ -55,7 +56,8 @@ returns-2 c =
     let l = n .before .before in
     let b = l .before in
     let s = b .before .before .before in
-    read-refused (s .pre) (octets _ (b .before .before .shared-slice-known .given)) (now (s .args .name)) (s .args .fork) (s .args .offset) (now (s .args .buffer)) (octets _ (b .before .shared-slice-known2 .given)) (omega arith) (octets _ (b .slice-known .given))
+    read-refused (s .pre) (octets _ (b .before .before .shared-slice-known .given)) (now (s .args .name)) (s .args .fork) (s .args .offset)
+    (now (s .args .buffer)) (octets _ (b .before .shared-slice-known2 .given)) (omega arith) (octets _ (b .slice-known .given))
     _ (names-none (now (s .args .image)) (now (s .args .name)) (l .lookup .result) (l .lookup .ensures) _ (n .number .given .1))
 
 same-length : tie.Need-same-length
@@ -68,7 +70,8 @@ returns-3 c =
     let e = k .before .before in
     let b = e .before .before .before in
     let s = b .before .before .before in
-    read-served (s .pre) (octets _ (b .before .before .shared-slice-known .given)) (now (s .args .name)) (s .args .fork) (s .args .offset) (now (s .args .buffer)) (octets _ (b .before .shared-slice-known2 .given)) (omega arith) (octets _ (b .slice-known .given))
+    read-served (s .pre) (octets _ (b .before .before .shared-slice-known .given)) (now (s .args .name)) (s .args .fork) (s .args .offset)
+    (now (s .args .buffer)) (octets _ (b .before .shared-slice-known2 .given)) (omega arith) (octets _ (b .slice-known .given))
     _ _ (file e) (k .read-fork .result) (k .read-fork .ensures) (f .copy-fork .result) _ (f .before .before .before .if1 .left)
     (f .copy-fork .ensures .0) (f .copy-fork .ensures .1)
 

@@ -21,7 +21,8 @@ enum-known-place : tie.Need-enum-known-place
 enum-known-place c = search needs
 
 file : (c : tie.After-place)
-    → NamedEntry (now (c .before .before .before .before .before .args .image)) (now (c .before .before .before .before .before .args .name)) (c .place .given .0 .0) (c .place .given .0 .1 .0)
+    → NamedEntry (now (c .before .before .before .before .before .args .image)) (now (c .before .before .before .before .before .args .name))
+    (c .place .given .0 .0) (c .place .given .0 .1 .0)
 file c =
     let l = c .before .before in
     let a = l .before .before .before .args in
@@ -35,7 +36,8 @@ returns c =
     let n = c .before .before in
     let l = n .before .before in
     let s = l .before .before .before in
-    find-refused (s .pre) (octets _ (l .before .before .shared-slice-known .given)) (now (s .args .name)) (octets _ (l .before .shared-slice-known2 .given)) _ (c .no-entry .result) (c .no-entry .ensures)
+    find-refused (s .pre) (octets _ (l .before .before .shared-slice-known .given)) (now (s .args .name)) (octets _ (l .before .shared-slice-known2 .given)) _
+    (c .no-entry .result) (c .no-entry .ensures)
     (names-none (now (s .args .image)) (now (s .args .name)) (l .lookup .result) (l .lookup .ensures) _ (n .number .given .1))
 
 returns-2 : tie.Need-returns-2
@@ -43,7 +45,8 @@ returns-2 c =
     let p = c .before .before in
     let l = p .before .before in
     let s = l .before .before .before in
-    find-served (s .pre) (octets _ (l .before .before .shared-slice-known .given)) (now (s .args .name)) (octets _ (l .before .shared-slice-known2 .given)) _ _ (c .read-entry .result) (c .read-entry .ensures) (file p)
+    find-served (s .pre) (octets _ (l .before .before .shared-slice-known .given)) (now (s .args .name)) (octets _ (l .before .shared-slice-known2 .given)) _ _
+    (c .read-entry .result) (c .read-entry .ensures) (file p)
 
 pub serve-find-spec : {M : Type 1} → statement M
 serve-find-spec =

@@ -31,7 +31,8 @@ tested : (c : tie.After-same Inv-loop μ-loop) → let l = c .before .before .be
     c .same .result ≡ sameBy (a .field) (occupant (now (a .image)) (now (a .table)) (l .loop .i)) (bytesAt (now (a .image)) (a .e))
 tested c =
     let a = start (c .before .before .before .before .before) .args in
-    c .same .ensures ∙ ap (λ (d : EntryAt). sameBy (a .field) (bytesAt (now (a .image)) d) (bytesAt (now (a .image)) (a .e))) (c .before .entry-in-slot .ensures)
+    c .same .ensures ∙ ap (λ (d : EntryAt). sameBy (a .field) (bytesAt (now (a .image)) d) (bytesAt (now (a .image)) (a .e)))
+    (c .before .entry-in-slot .ensures)
 
 returns : tie.Need-returns Inv-loop μ-loop
 returns c = tt
@@ -49,7 +50,8 @@ element-copy-out-kept : tie.Need-element-copy-out-kept Inv-loop μ-loop
 element-copy-out-kept c = omega arith
 
 returns-2 : tie.Need-returns-2 Inv-loop μ-loop
-returns-2 c = let l = c .before .before .before in record { small = l .before .before .if1 .left; within = omega arith; free = c .if2 .taken; passed = l .loop .inv }
+returns-2 c =
+    let l = c .before .before .before in record { small = l .before .before .if1 .left; within = omega arith; free = c .if2 .taken; passed = l .loop .inv }
 
 entry-in-slot-requires : tie.Need-entry-in-slot-requires Inv-loop μ-loop
 entry-in-slot-requires c κs = (held c, start (c .before .before .before) .pre .1 _ (held c))

@@ -23,7 +23,9 @@ six c = sym (c .before .count-entries .ensures .six) ∙ c .if1 .left
 counted : (c : tie.Else1) → let s = c .before .before .before in c .before .count-entries .result .count ≡ length (restOf (now (s .args .image)) (s .args .c))
 counted c = c .before .count-entries .ensures .counted (c .if1 .left)
 
-tested : (c : tie.Else1) → let s = c .before .before .before in every (goodNumber (s .args .next)) (restOf (now (s .args .image)) (s .args .c)) ≡ c .before .count-entries .result .numbered
+tested : (c : tie.Else1)
+    → let s = c .before .before .before in every (goodNumber (s .args .next))
+    (restOf (now (s .args .image)) (s .args .c)) ≡ c .before .count-entries .result .numbered
 tested c = sym (c .before .count-entries .ensures .tested (c .if1 .left))
 
 returns : tie.Need-returns

@@ -22,7 +22,8 @@ returns c = by-facts _ _ _ (c .before .facts-number .ensures) (c .if1 .taken)
 
 -- checks 1 to 4 are passed
 sound : (c : tie.Else1) → let s = c .before .before .before in SoundFacts (s .args .f) (length (now (s .args .image)))
-sound c = let s = c .before .before .before in facts-sound (s .args .f) (now (s .args .image)) _ (c .before .facts-number .ensures) (c .if1 .left) (s .pre .long)
+sound c =
+    let s = c .before .before .before in facts-sound (s .args .f) (now (s .args .image)) _ (c .before .facts-number .ensures) (c .if1 .left) (s .pre .long)
 
 decode-requires : tie.Need-decode-requires
 decode-requires c κs = let s = sound c in (s .most, omega arith)
@@ -44,10 +45,13 @@ new-requires : tie.Need-new-requires
 new-requires c κs = sound (c .before .before .before .before .before) .dirSome
 
 -- the cursor's entries are the directory
-entries : (c : tie.After-new) → let s = c .before .before .before .before .before .before .before .before .before in restOf (now (s .args .image)) (c .new .result) ≡ directory (now (s .args .image))
+entries : (c : tie.After-new)
+    → let s = c .before .before .before .before .before .before .before .before .before in restOf (now (s .args .image)) (c .new .result) ≡ directory
+    (now (s .args .image))
 entries c = rest-directory _ _ (c .before .before .before .before .before .before .before .before .before .pre .facts) _ (c .new .ensures)
 
-fits : (c : tie.After-new) → let s = c .before .before .before .before .before .before .before .before .before in CursorFits (now (s .args .image)) (c .new .result)
+fits : (c : tie.After-new)
+    → let s = c .before .before .before .before .before .before .before .before .before in CursorFits (now (s .args .image)) (c .new .result)
 fits c = let s = sound (c .before .before .before .before .before .before) in begins-fits _ _ _ _ (c .new .ensures) (omega arith)
 
 directory-number-requires : tie.Need-directory-number-requires
@@ -58,7 +62,8 @@ returns-3 c =
     let new = c .before .before in
     let map = new .before .before in
     let facts = map .before .before .before .before in
-    by-directory _ _ _ (facts .before .facts-number .ensures) (facts .if1 .left) (five (map .before) ∙ map .if2 .left) _ (entries new) _ (c .before .directory-number .ensures) (c .if3 .taken)
+    by-directory _ _ _ (facts .before .facts-number .ensures) (facts .if1 .left) (five (map .before)
+    ∙ map .if2 .left) _ (entries new) _ (c .before .directory-number .ensures) (c .if3 .taken)
 
 map-number-requires : tie.Need-map-number-requires
 map-number-requires c κs =
@@ -77,7 +82,8 @@ returns-4 c =
     let new = directory .before in
     let map = new .before .before in
     let facts = map .before .before .before .before in
-    by-forks _ _ _ (facts .before .facts-number .ensures) (facts .if1 .left) (five (map .before) ∙ map .if2 .left) _ (entries new) _ (directory .directory-number .ensures) (past .if3 .left) _ (c .map-number .ensures)
+    by-forks _ _ _ (facts .before .facts-number .ensures) (facts .if1 .left) (five (map .before)
+    ∙ map .if2 .left) _ (entries new) _ (directory .directory-number .ensures) (past .if3 .left) _ (c .map-number .ensures)
 
 pub judge-spec : {M : Type 1} → statement M
 judge-spec =

@@ -18,7 +18,8 @@ use Rattle.checks.proofs.verdict.map_number.Tie as tie
 -- what the claims and the scans say of the decoded map, they say of the image's
 claimed : (c : tie.After-claim-all)
     → let a = c .before .before .before .args in
-    Claims (mapEntry (now (a .image))) (N (a .f)) (A (a .f)) (replicate 642 0) (forksIn (restOf (now (a .image)) (a .c))) (c .claim-all .result) (c .claim-all .last .1 .1 .1 .1 .1 .0)
+    Claims (mapEntry (now (a .image))) (N (a .f)) (A (a .f)) (replicate 642 0) (forksIn (restOf (now (a .image)) (a .c))) (c .claim-all .result)
+    (c .claim-all .last .1 .1 .1 .1 .1 .0)
 claimed c = claims-all-alike _ _ _ (c .before .before .before .pre .decoded .same) _ _ _ _ _ (c .claim-all .ensures)
 
 lost : (c : tie.After-any-unowned)
@@ -56,7 +57,8 @@ returns-3 c =
     let owned = count .before in
     let past = owned .before .before .before in
     let claim = past .before in
-    number-10 _ (claim .before .before .before .pre .facts .most) _ _ _ _ (claimed claim) (not-false _ (past .if1 .left)) (lost (owned .before) ∙ owned .if2 .left)
+    number-10 _ (claim .before .before .before .pre .facts .most) _ _ _ _ (claimed claim) (not-false _ (past .if1 .left)) (lost (owned .before)
+    ∙ owned .if2 .left)
     _ (counted count) (c .if3 .taken)
 
 returns-4 : tie.Need-returns-4
@@ -65,7 +67,8 @@ returns-4 c =
     let owned = count .before in
     let past = owned .before .before .before in
     let claim = past .before in
-    number-0 _ (claim .before .before .before .pre .facts .most) _ _ _ _ (claimed claim) (not-false _ (past .if1 .left)) (lost (owned .before) ∙ owned .if2 .left)
+    number-0 _ (claim .before .before .before .pre .facts .most) _ _ _ _ (claimed claim) (not-false _ (past .if1 .left)) (lost (owned .before)
+    ∙ owned .if2 .left)
     _ (counted count) (c .if3 .left)
 
 pub map-number-spec : {M : Type 1} → statement M

@@ -22,7 +22,8 @@ abbrev μ-loop : tie.MeasureT-loop
 μ-loop image c₀ c = c .left
 
 -- where the block's reading ends at c
-ended : (c : tie.Then1 Inv-loop μ-loop) → endsAt (blockOf (now (c .before .before .before .before .args .image)) (c .before .before .loop .c)) (c .before .before .loop .c .at) ≡ true
+ended : (c : tie.Then1 Inv-loop μ-loop)
+    → endsAt (blockOf (now (c .before .before .before .before .args .image)) (c .before .before .loop .c)) (c .before .before .loop .c .at) ≡ true
 ended c = sym (c .before .ends .ensures) ∙ c .if1 .taken
 
 loop-holds : tie.Need-loop-holds Inv-loop μ-loop
@@ -50,8 +51,14 @@ loop-again : tie.Need-loop-again Inv-loop μ-loop
 loop-again c =
     let b = c .before .before .before .before in
     let l = b .before .before .loop in
-    let next = next-block (now (b .before .before .before .before .args .image)) (l .c) (l .inv .0) (ended b) (c .before .before .if2 .left) in
-    (record { blocks = omega arith; place = omega arith }, l .inv .1 ∙ next, omega arith, λ base blocks k. comes-block (now (b .before .before .before .before .args .image)) (l .c) base blocks (c .before .before .if2 .left) (l .inv .3 base blocks k))
+    let next = next-block (now (b .before .before .before .before .args .image)) (l .c) (l .inv .0) (ended b) (c .before .before .if2 .left) in (
+      record { blocks = omega arith; place = omega arith },
+      l .inv .1
+          ∙ next,
+      omega arith,
+      λ base blocks k. comes-block (now (b .before .before .before .before .args .image)) (l .c) base blocks
+          (c .before .before .if2 .left) (l .inv .3 base blocks k),
+    )
 
 entry-requires : tie.Need-entry-requires Inv-loop μ-loop
 entry-requires c κs = (c .before .before .loop .inv .0, sym (c .before .ends .ensures) ∙ c .if1 .left)

@@ -32,13 +32,15 @@ returns : tie.Need-returns
 returns c =
     let s = c .before .before .before .before .before in
     let bytes = bytesAt (now (s .args .image)) (s .args .e) in
-    c .fork-at .ensures ∙ sym (fork-field (now (s .args .image)) (s .args .e) (s .pre) Data) ∙ sym (ap (λ (f : Fork). forkOf f bytes) (c .before .before .enum-told .given .1))
+    c .fork-at .ensures ∙ sym (fork-field (now (s .args .image)) (s .args .e) (s .pre) Data)
+    ∙ sym (ap (λ (f : Fork). forkOf f bytes) (c .before .before .enum-told .given .1))
 
 returns-2 : tie.Need-returns-2
 returns-2 c =
     let s = c .before .before .before .before .before in
     let bytes = bytesAt (now (s .args .image)) (s .args .e) in
-    c .fork-at2 .ensures ∙ sym (fork-field (now (s .args .image)) (s .args .e) (s .pre) Resource) ∙ sym (ap (λ (f : Fork). forkOf f bytes) (c .before .before .enum-told2 .given .1))
+    c .fork-at2 .ensures ∙ sym (fork-field (now (s .args .image)) (s .args .e) (s .pre) Resource)
+    ∙ sym (ap (λ (f : Fork). forkOf f bytes) (c .before .before .enum-told2 .given .1))
 
 pub read-fork-spec : {M : Type 1} → statement M
 read-fork-spec =

@@ -30,7 +30,10 @@ add-base : tie.Need-add-base Inv-loop μ-loop
 add-base c = omega (arith, c .before .before .before .before .before .pre .0 .fits .blocks)
 
 read-end-requires : tie.Need-read-end-requires Inv-loop μ-loop
-read-end-requires c κs = let l = c .before .before .before in let s = l .before .before in block-of (now (s .args .image)) (s .args .from) (s .pre .0) (s .pre .1 .0) (l .loop .i) (omega arith)
+read-end-requires c κs =
+    let l = c .before .before .before in
+    let s = l .before .before in
+    block-of (now (s .args .image)) (s .args .from) (s .pre .0) (s .pre .1 .0) (l .loop .i) (omega arith)
 
 add-if2 : tie.Need-add-if2 Inv-loop μ-loop
 add-if2 c = omega (arith, c .read-end .ensures .1)
@@ -61,8 +64,11 @@ loop-again c =
     let r = c .before in
     let l = r .before .before .before .before in
     let s = l .before .before in
-    let b = part (s .args .from .base + 512 * l .loop .i) 512 (now (s .args .image)) in
-    (omega arith, none-more (s .args .size) (now (s .args .image)) (s .args .from .base) (l .loop .i) (l .loop .inv .1) (room-not (s .args .size) b (omega (arith, r .read-end .ensures .0))))
+    let b = part (s .args .from .base + 512 * l .loop .i) 512 (now (s .args .image)) in (
+      omega arith,
+      none-more (s .args .size) (now (s .args .image)) (s .args .from .base) (l .loop .i) (l .loop .inv .1)
+          (room-not (s .args .size) b (omega (arith, r .read-end .ensures .0))),
+    )
 
 returns-2 : tie.Need-returns-2 Inv-loop μ-loop
 returns-2 c =

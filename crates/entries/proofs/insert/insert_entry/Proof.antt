@@ -72,22 +72,29 @@ after-flags c = kept (room (c .before .before)) (c .put16-at .kept .0)
 after-finder : (c : tie.After-put-bytes) → Room (c .before .before .before .before .before .before .before .before .before) (c .put-bytes .last .0)
 after-finder c = kept (after-flags (c .before .before .before .before .before)) (c .put-bytes .kept .0)
 
-after-number : (c : tie.After-put32-at) → Room (c .before .before .before .before .before .before .before .before .before .before .before .before .before) (c .put32-at .last .0)
+after-number : (c : tie.After-put32-at)
+    → Room (c .before .before .before .before .before .before .before .before .before .before .before .before .before) (c .put32-at .last .0)
 after-number c = kept (after-finder (c .before .before .before .before)) (c .put32-at .kept .0)
 
-after-forks : (c : tie.After-clear) → Room (c .before .before .before .before .before .before .before .before .before .before .before .before .before .before .before .before .before) (c .clear .last .0)
+after-forks : (c : tie.After-clear)
+    → Room (c .before .before .before .before .before .before .before .before .before .before .before .before .before .before .before .before .before)
+    (c .clear .last .0)
 after-forks c = kept (after-number (c .before .before .before .before)) (c .clear .kept .0)
 
-after-created : (c : tie.After-put32-at2) → Room (c .before .before .before .before .before .before .before .before .before .before .before .before .before .before .before .before .before .before .before .before .before) (c .put32-at2 .last .0)
+after-created : (c : tie.After-put32-at2)
+    → Room (c .before .before .before .before .before .before .before .before .before .before .before .before .before .before .before .before .before .before .before .before .before) (c .put32-at2 .last .0)
 after-created c = kept (after-forks (c .before .before .before .before)) (c .put32-at2 .kept .0)
 
-after-changed : (c : tie.After-put32-at3) → Room (c .before .before .before .before .before .before .before .before .before .before .before .before .before .before .before .before .before .before .before .before .before .before .before .before .before) (c .put32-at3 .last .0)
+after-changed : (c : tie.After-put32-at3)
+    → Room (c .before .before .before .before .before .before .before .before .before .before .before .before .before .before .before .before .before .before .before .before .before .before .before .before .before) (c .put32-at3 .last .0)
 after-changed c = kept (after-created (c .before .before .before .before)) (c .put32-at3 .kept .0)
 
-after-length : (c : tie.After-put32-at3) → let a = c .before .before .before .before .before .before .before .before .before .before .before .before .before .before .before .before .before .before .before .before .before .before .before .before .before .args in Room (c .before .before .before .before .before .before .before .before .before .before .before .before .before .before .before .before .before .before .before .before .before .before .before .before .before) (set (c .put32-at3 .last .0) (a .base + a .end + 50) (length (now (a .name))))
+after-length : (c : tie.After-put32-at3)
+    → let a = c .before .before .before .before .before .before .before .before .before .before .before .before .before .before .before .before .before .before .before .before .before .before .before .before .before .args in Room (c .before .before .before .before .before .before .before .before .before .before .before .before .before .before .before .before .before .before .before .before .before .before .before .before .before) (set (c .put32-at3 .last .0) (a .base + a .end + 50) (length (now (a .name))))
 after-length c = kept (after-changed c) (length-set (c .put32-at3 .last .0) _ _)
 
-after-title : (c : tie.After-put-bytes2) → Room (c .before .before .before .before .before .before .before .before .before .before .before .before .before .before .before .before .before .before .before .before .before .before .before .before .before .before .before .before .before) (c .put-bytes2 .last .0)
+after-title : (c : tie.After-put-bytes2)
+    → Room (c .before .before .before .before .before .before .before .before .before .before .before .before .before .before .before .before .before .before .before .before .before .before .before .before .before .before .before .before .before) (c .put-bytes2 .last .0)
 after-title c = kept (after-length (c .before .before .before .before)) (c .put-bytes2 .kept .0)
 
 add-at : tie.Need-add-at
@@ -136,7 +143,8 @@ title-fits : (l : ℕ) → l ≤ 255 → Fits w8 l
 title-fits l h = omega arith
 
 cast-image : tie.Need-cast-image
-cast-image c = title-fits _ (c .before .before .before .before .before .before .before .before .before .before .before .before .before .before .before .before .before .before .before .before .before .before .before .before .before .before .before .pre .1 .2)
+cast-image c =
+    title-fits _ (c .before .before .before .before .before .before .before .before .before .before .before .before .before .before .before .before .before .before .before .before .before .before .before .before .before .before .before .pre .1 .2)
 
 add-image : tie.Need-add-image
 add-image c = place (after-changed (c .before .before)) 50 (lit≤ tt)
@@ -183,7 +191,8 @@ returns c =
     inserted-stores (a .number) (now (a .name)) (now (a .finder)) (a .created) (a .changed) (finder .before .put-bytes-arg2 .given .0)
     (now (a .image)) (a .base) (a .end) (s .pre .0) (s .pre .1 .0) (s .pre .1 .1) _ _ _ _ _ _ _ _ _
     (flags .put16-at .ensures) (finder .put-bytes .ensures) (number .put32-at .ensures) (forks .clear .ensures) (created .put32-at2 .ensures)
-    (changed .put32-at3 .ensures) refl (title .put-bytes2 .ensures) (a .base + a .end + 51 + length (now (a .name))) _ (joined _ _) refl (zeros .clear2 .ensures)
+    (changed .put32-at3 .ensures) refl (title .put-bytes2 .ensures) (a .base + a .end + 51 + length (now (a .name))) _ (joined _ _) refl
+    (zeros .clear2 .ensures)
 
 pub insert-entry-spec : {M : Type 1} → statement M
 insert-entry-spec =

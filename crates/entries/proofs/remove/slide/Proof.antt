@@ -43,7 +43,8 @@ loop-again c =
     let l = c .before .before .loop in (
       omega arith,
       length-set (l .image) (a .to + l .i) (byte (l .image) (a .from + l .i)) ∙ l .inv .1,
-      ap (λ (x : List ℕ). set x (a .to + l .i) (byte x (a .from + l .i))) (l .inv .2) ∙ slide-byte (a .image .now) (a .to) (a .from) (l .i) (omega arith) (omega arith),
+      ap (λ (x : List ℕ). set x (a .to + l .i) (byte x (a .from + l .i))) (l .inv .2)
+          ∙ slide-byte (a .image .now) (a .to) (a .from) (l .i) (omega arith) (omega arith),
     )
 
 same-length : tie.Need-same-length Inv-loop μ-loop

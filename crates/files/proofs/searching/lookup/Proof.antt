@@ -38,14 +38,16 @@ returns-3 c =
     let f = c .before .before .before in
     let k = f .before in
     let s = k .before .before .before .before .before in
-    found-at (s .pre) (k .first-entry .result) (k .first-entry .ensures) (now (s .args .name)) (f .locate .result) (f .locate .ensures .0) (f .locate .ensures .1) (good (k .before)) _ _ (c .before .place .given .1)
+    found-at (s .pre) (k .first-entry .result) (k .first-entry .ensures) (now (s .args .name)) (f .locate .result) (f .locate .ensures .0)
+    (f .locate .ensures .1) (good (k .before)) _ _ (c .before .place .given .1)
 
 returns-4 : tie.Need-returns-4
 returns-4 c =
     let f = c .before .before in
     let k = f .before in
     let s = k .before .before .before .before .before in
-    found-none (s .pre) (k .first-entry .result) (k .first-entry .ensures) (now (s .args .name)) (f .locate .result) (f .locate .ensures .0) (f .locate .ensures .1) (good (k .before)) (c .enum-told .given .1)
+    found-none (s .pre) (k .first-entry .result) (k .first-entry .ensures) (now (s .args .name)) (f .locate .result) (f .locate .ensures .0)
+    (f .locate .ensures .1) (good (k .before)) (c .enum-told .given .1)
 
 pub lookup-spec : {M : Type 1} → statement M
 lookup-spec =

@@ -12,7 +12,8 @@ use lib.Seq.{paste}
 use Rattle.model.specs.Facts.{blockByte}
 use Rattle.forks.proofs.Copying.{Onward, onward-block, onward-lies, Midway, midway-first, midway-copied, midway-next, bytesFrom}
 use Rattle.forks.proofs.Copying.{fork-enough, fork-part, place-small, has-place, fork-onward}
-use Rattle.forks.proofs.Copying.{positive, place-fits, long, multiple, turn-in-block, turn-in-count, turn-less, turn-whole, from-fits, from-within, all-done, before-all, to-within}
+use Rattle.forks.proofs.Copying.{positive, place-fits, long, multiple, turn-in-block, turn-in-count, turn-less, turn-whole, from-fits, from-within}
+use Rattle.forks.proofs.Copying.{all-done, before-all, to-within}
 use Rattle.forks.proofs.content.copy_blocks.Statement.{statement}
 use Rattle.forks.proofs.content.copy_blocks.Tie as tie
 
@@ -48,8 +49,10 @@ cast-block-at c =
 
 block-at-requires : tie.Need-block-at-requires Inv-loop μ-loop
 block-at-requires c κs =
-    let a = c .before .before .args in
-    (has-place (now (a .image)) (a .start) (a .size) (a .g) (c .before .before .pre .0) (a .offset) (before-end (c .before .before)), image-long (c .before .before))
+    let a = c .before .before .args in (
+      has-place (now (a .image)) (a .start) (a .size) (a .g) (c .before .before .pre .0) (a .offset) (before-end (c .before .before)),
+      image-long (c .before .before),
+    )
 
 rem-within : tie.Need-rem-within Inv-loop μ-loop
 rem-within c = size-positive (c .before .before .before)
@@ -82,7 +85,8 @@ begins : (c : tie.At-loop Inv-loop μ-loop) → let a = entry c .args in
 begins c =
     let f = entry c in
     let a = f .args in
-    fork-onward (now (a .image)) (a .start) (a .size) (a .g) (f .pre .0) (a .offset) (before-end f) (c .before .block-at .result .0) (c .before .block-at .ensures)
+    fork-onward (now (a .image)) (a .start) (a .size) (a .g) (f .pre .0) (a .offset) (before-end f) (c .before .block-at .result .0)
+    (c .before .block-at .ensures)
 
 goes-on : (c : tie.At-loop Inv-loop μ-loop) → let a = entry c .args in
     Onward (now (a .image)) (a .start) (a .size) (drop (c .loop .done) (due c)) (c .loop .b .0) (c .loop .within)
@@ -200,7 +204,8 @@ loop-again c =
     let end : l .loop .within + number y ≡ a .size =
     turn-whole _ _ _ _ _ (y .before .before .smaller .ensures) (l .loop .inv .here) (l .loop .inv .more) (c .before .if1 .left) in
     midway-next (now (a .image)) (a .start) (a .size) (a .count) (l .before .block-at .result .0) (a .offset % a .size) (a .buffer .now)
-    (l .loop .b .0) (l .loop .within) (l .loop .done) (l .loop .buffer) (l .loop .inv) (f .pre .3) (number y) (c .load .result) (k .copy-part .last .1 .1 .0) end
+    (l .loop .b .0) (l .loop .within) (l .loop .done) (l .loop .buffer) (l .loop .inv) (f .pre .3) (number y) (c .load .result)
+    (k .copy-part .last .1 .1 .0) end
     (c .before .if1 .left) (k .copy-part .kept .1 .1 .0) (stored k) (c .load .ensures .0)
 
 pub copy-blocks-spec : {M : Type 1} → statement M

@@ -40,8 +40,11 @@ returns-2 c =
     let k = c .before .before .before .before .before in
     let f = k .before .before .before .before in
     let a = f .args in
-    let n = k .smaller .result in
-    (count-is k, c .before .before .copy-blocks .ensures ∙ copied-fork (now (a .image)) (a .start) (a .size) (a .g) (f .pre .0) (a .offset) n (now (a .buffer)) (count-is k))
+    let n = k .smaller .result in (
+      count-is k,
+      c .before .before .copy-blocks .ensures
+          ∙ copied-fork (now (a .image)) (a .start) (a .size) (a .g) (f .pre .0) (a .offset) n (now (a .buffer)) (count-is k),
+    )
 
 pub copy-fork-spec : {M : Type 1} → statement M
 copy-fork-spec =

@@ -16,7 +16,8 @@ use Rattle.model.specs.Map.{mapEntry, chainBlocks}
 use Rattle.model.specs.Calls.{putContent}
 use Rattle.forks.proofs.Filling.{Due, due-block, due-lies, Partway, partway-first, partway-last, partway-next}
 use Rattle.forks.proofs.Filling.{fill-none, fill-small, fill-place, fill-due}
-use Rattle.forks.proofs.Copying.{positive, place-fits, long, multiple, turn-in-block, turn-in-count, turn-less, turn-whole, from-fits, from-within, all-done}
+use Rattle.forks.proofs.Copying.{positive, place-fits, long, multiple, turn-in-block, turn-in-count, turn-less, turn-whole, from-fits, from-within}
+use Rattle.forks.proofs.Copying.{all-done}
 use Rattle.forks.proofs.content.fill_fork.Statement.{statement}
 use Rattle.forks.proofs.content.fill_fork.Tie as tie
 
@@ -67,7 +68,8 @@ cast-block-at : tie.Need-cast-block-at Inv-loop μ-loop
 cast-block-at c =
     let f = c .before .before .before .before in
     let a = f .args in
-    place-fits _ (fill-small (now (a .image)) (a .start) (a .size) (a .first .0) (a .blocks) (f .pre .0) (a .offset) (now (a .bytes)) (f .pre .1) (some (c .before)))
+    place-fits _ (fill-small (now (a .image)) (a .start) (a .size) (a .first .0) (a .blocks) (f .pre .0) (a .offset) (now (a .bytes)) (f .pre .1)
+    (some (c .before)))
 
 block-at-requires : tie.Need-block-at-requires Inv-loop μ-loop
 block-at-requires c κs =
@@ -84,7 +86,8 @@ loop-holds : tie.Need-loop-holds Inv-loop μ-loop
 loop-holds c =
     let f = c .before .before .before .before .before in
     let a = f .args in
-    partway-first (now (a .image)) (a .start) (a .size) (now (a .bytes)) (c .block-at .result .0) (a .offset % a .size) (some (c .before .before)) (mod-lt (a .offset) (size-positive f))
+    partway-first (now (a .image)) (a .start) (a .size) (now (a .bytes)) (c .block-at .result .0) (a .offset % a .size) (some (c .before .before))
+    (mod-lt (a .offset) (size-positive f))
 
 -- ---- in the loop
 
@@ -99,7 +102,8 @@ begins : (c : tie.At-loop Inv-loop μ-loop) → let a = c .before .before .befor
 begins c =
     let f = c .before .before .before .before .before .before in
     let a = f .args in
-    fill-due (now (a .image)) (a .start) (a .size) (a .first .0) (a .blocks) (f .pre .0) (a .offset) (now (a .bytes)) (f .pre .1) (some (c .before .before .before))
+    fill-due (now (a .image)) (a .start) (a .size) (a .first .0) (a .blocks) (f .pre .0) (a .offset) (now (a .bytes)) (f .pre .1)
+    (some (c .before .before .before))
     (c .before .block-at .result .0) (c .before .block-at .ensures)
 
 goes-on : (c : tie.At-loop Inv-loop μ-loop) → let a = c .before .before .before .before .before .before .args in
@@ -109,13 +113,15 @@ goes-on c = c .loop .inv .due (filled c) (begins c)
 numbered : (c : tie.At-loop Inv-loop μ-loop) → (2 ≤ c .loop .block .0) × (c .loop .block .0 ≤ 641)
 numbered c =
     let a = c .before .before .before .before .before .before .args in
-    due-block (now (a .image)) (a .start) (a .size) (c .loop .image) (c .loop .block .0) (c .loop .at) (drop (c .loop .stored) (now (a .bytes))) (filled c) (goes-on c)
+    due-block (now (a .image)) (a .start) (a .size) (c .loop .image) (c .loop .block .0) (c .loop .at) (drop (c .loop .stored) (now (a .bytes))) (filled c)
+    (goes-on c)
 
 lies : (c : tie.At-loop Inv-loop μ-loop) → let a = c .before .before .before .before .before .before .args in
     blockByte (a .start) (a .size) (c .loop .block) + a .size ≤ length (c .loop .image)
 lies c =
     let a = c .before .before .before .before .before .before .args in
-    due-lies (now (a .image)) (a .start) (a .size) (c .loop .image) (c .loop .block .0) (c .loop .at) (drop (c .loop .stored) (now (a .bytes))) (filled c) (goes-on c)
+    due-lies (now (a .image)) (a .start) (a .size) (c .loop .image) (c .loop .block .0) (c .loop .at) (drop (c .loop .stored) (now (a .bytes))) (filled c)
+    (goes-on c)
 
 sub-smaller : tie.Need-sub-smaller Inv-loop μ-loop
 sub-smaller c = le-of-lt (c .loop .inv .here)
@@ -171,7 +177,8 @@ add-stored c =
 
 -- ---- after the store
 
-after : (c : tie.After-copy-part Inv-loop μ-loop) → let y = c .before .before in let l = y .before .before .before in let a = l .before .before .before .before .before .before .args in
+after : (c : tie.After-copy-part Inv-loop μ-loop)
+    → let y = c .before .before in let l = y .before .before .before in let a = l .before .before .before .before .before .before .args in
     c .copy-part .last .1 .1 .0
     ≡ paste (l .loop .image) (blockByte (a .start) (a .size) (l .loop .block) + l .loop .at) (drop (l .loop .stored) (now (a .bytes))) (number y)
 after c =
@@ -191,7 +198,8 @@ returns-2 c =
     let a = l .before .before .before .before .before .before .args in
     let end : l .loop .stored + number y ≡ length (now (a .bytes)) = all-done _ _ (in-count y) (c .if2 .taken) in
     after k
-    ∙ partway-last (now (a .image)) (a .start) (a .size) (now (a .bytes)) (l .before .block-at .result .0) (a .offset % a .size) (l .loop .block .0) (l .loop .at) (l .loop .stored)
+    ∙ partway-last (now (a .image)) (a .start) (a .size) (now (a .bytes)) (l .before .block-at .result .0) (a .offset % a .size) (l .loop .block .0)
+    (l .loop .at) (l .loop .stored)
     (l .loop .image) (l .loop .inv) (number y) (in-block y) end (filled l) (begins l)
 
 load-requires : tie.Need-load-requires Inv-loop μ-loop
@@ -215,8 +223,10 @@ loop-again c =
     let a = l .before .before .before .before .before .before .args in
     let end : l .loop .at + number y ≡ a .size =
     turn-whole _ _ _ _ _ (y .before .before .smaller .ensures) (l .loop .inv .here) (l .loop .inv .more) (c .before .before .if2 .left) in
-    partway-next (now (a .image)) (a .start) (a .size) (now (a .bytes)) (l .before .block-at .result .0) (a .offset % a .size) (l .loop .block .0) (l .loop .at) (l .loop .stored)
-    (l .loop .image) (l .loop .inv) (number y) (c .load .result) (k .copy-part .last .1 .1 .0) end (c .before .before .if2 .left) (k .copy-part .kept .1 .1 .0) (after k) (c .load .ensures .0)
+    partway-next (now (a .image)) (a .start) (a .size) (now (a .bytes)) (l .before .block-at .result .0) (a .offset % a .size) (l .loop .block .0)
+    (l .loop .at) (l .loop .stored)
+    (l .loop .image) (l .loop .inv) (number y) (c .load .result) (k .copy-part .last .1 .1 .0) end (c .before .before .if2 .left) (k .copy-part .kept .1 .1 .0)
+    (after k) (c .load .ensures .0)
 
 pub fill-fork-spec : {M : Type 1} → statement M
 fill-fork-spec =

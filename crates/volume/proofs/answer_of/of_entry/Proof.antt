@@ -7,7 +7,9 @@ no-facts-requires : tie.Need-no-facts-requires
 no-facts-requires c κs = search needs
 
 returns : tie.Need-returns
-returns c = let r = c .before .before .args .r in λ i. record { number = r .number; facts = c .no-facts .ensures i; place = 0; entry = r .entry; block = record { 0 = 0 }; count = 0 }
+returns c =
+    let r = c .before .before .args .r in
+    λ i. record { number = r .number; facts = c .no-facts .ensures i; place = 0; entry = r .entry; block = record { 0 = 0 }; count = 0 }
 
 pub of-entry-spec : {M : Type 1} → statement M
 of-entry-spec = tie.close (tie.spec no-facts-requires returns)

@@ -128,7 +128,8 @@ unfolding callOf
 returns-5 c =
     let k = c .before .before .before in
     let e = k .before .before .before in
-    rw (e .enum-told5 .given .1, c .of-read .ensures) (read-happens (now (e .before .before .before .before .before .before .args .buffer)) (same-length-6 c) (k .read .ensures))
+    rw (e .enum-told5 .given .1, c .of-read .ensures)
+    (read-happens (now (e .before .before .before .before .before .before .args .buffer)) (same-length-6 c) (k .read .ensures))
 
 same-length-7 : tie.Need-same-length-7
 same-length-7 c = search needs
