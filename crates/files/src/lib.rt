@@ -21,27 +21,32 @@ pub enum Named {
 }
 
 // Each answer begins with its number: 0, or that of the refusal, and then all else is zero.
+#[repr(C)]
 pub struct CheckAnswer {
     pub number: u8,
     pub facts: VolumeFacts,
 }
 
+#[repr(C)]
 pub struct EntryAnswer {
     pub number: u8,
     pub entry: DirectoryEntry,
 }
 
+#[repr(C)]
 pub struct FindAnswer {
     pub number: u8,
     pub place: u64,
     pub entry: DirectoryEntry,
 }
 
+#[repr(C)]
 pub struct BlockAnswer {
     pub number: u8,
     pub block: AllocationBlock,
 }
 
+#[repr(C)]
 pub struct ReadAnswer {
     pub number: u8,
     pub count: usize,

@@ -13,12 +13,15 @@ pub use numbers::be16_at;
 pub use numbers::be32_at;
 
 // The number of an allocation block: 2 to N + 1.
+#[repr(C)]
 pub struct AllocationBlock(pub u16);
 
 // The number of a logical block of 512 bytes.
+#[repr(C)]
 pub struct LogicalBlock(pub u32);
 
 // The facts of the volume information.
+#[repr(C)]
 pub struct VolumeFacts {
     pub signature: u16,
     pub created: u32,
@@ -52,6 +55,7 @@ pub enum Fork {
 }
 
 // A fork's fields in a directory entry.
+#[repr(C)]
 pub struct ForkFacts {
     pub start: AllocationBlock,
     pub logical: u32,
@@ -59,6 +63,7 @@ pub struct ForkFacts {
 }
 
 // A directory entry, its name zero behind its length.
+#[repr(C)]
 pub struct DirectoryEntry {
     pub flags: u8,
     pub version: u8,
