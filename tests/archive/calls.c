@@ -1,0 +1,718 @@
+/*
+ * The nine calls of the archive on known answers: document 01's disk HALL, its P cases, and each number that a call can give.
+ * usage: calls HALL-IMAGE. A line for each test; exit status 1 where one fails.
+ */
+#include <stdio.h>
+#include <string.h>
+
+#include "mfs.h"
+
+#define HALL 6144
+#define LARGE (800 * 512)
+#define MOST (65536 * 512)
+
+#define ENTRY1 2048          /* of WEEK1 */
+#define ENTRY2 (2048 + 56)   /* of RATES */
+#define ENTRY3 (2048 + 112)  /* the next to come */
+#define BLOCK(b) (2560 + ((b) - 2) * 512)
+
+#define WEEK1 (const uint8_t *)"WEEK1", 5
+#define RATES (const uint8_t *)"RATES", 5
+#define THIRD (const uint8_t *)"THIRD", 5
+
+#define EXPECT(condition)                                                   \
+    do {                                                                    \
+        if (!(condition)) {                                                 \
+            printf("    calls.c line %d: not so: %s\n", __LINE__, #condition); \
+            good = 0;                                                       \
+        }                                                                   \
+    } while (0)
+
+static uint8_t hall[HALL];  /* as it came */
+static uint8_t image[MOST]; /* the image that calls are made on */
+static uint8_t want[MOST];  /* what it is to be after them */
+static const uint8_t finder[16] = {'T', 'E', 'X', 'T', 'M', 'A', 'C', 'A', 1, 2, 3, 4, 5, 6, 7, 8};
+static int good;
+
+/* ---- images */
+
+static void put16(uint8_t *at, unsigned n)
+{
+    at[0] = (uint8_t)(n >> 8);
+    at[1] = (uint8_t)n;
+}
+
+static void put32(uint8_t *at, uint32_t n)
+{
+    put16(at, n >> 16);
+    put16(at + 2, n & 0xffff);
+}
+
+static void start(void)
+{
+    memcpy(image, hall, HALL);
+    memcpy(want, hall, HALL);
+}
+
+/* The image as it is now is wanted. */
+static void keep(size_t length)
+{
+    memcpy(want, image, length);
+}
+
+static int as_wanted(size_t length)
+{
+    return memcmp(image, want, length) == 0;
+}
+
+/* The wanted map begins with these six bytes, and the wanted free count is this. */
+static void want_map(const char *bytes, unsigned free_blocks)
+{
+    memcpy(want + 1088, bytes, 6);
+    put16(want + 1058, free_blocks);
+}
+
+/* The wanted lengths and change date of WEEK1's data fork. */
+static void want_week1(uint32_t logical, uint32_t physical, uint32_t changed)
+{
+    put32(want + ENTRY1 + 24, logical);
+    put32(want + ENTRY1 + 28, physical);
+    put32(want + ENTRY1 + 46, changed);
+}
+
+/* An 800-block volume with no files, S = 16, A = 1,024. */
+static void large(unsigned blocks)
+{
+    memset(image, 0, LARGE);
+    put16(image + 1024, 0xd2d7);
+    put16(image + 1038, 4);
+    put16(image + 1040, 12);
+    put16(image + 1042, blocks);
+    put32(image + 1044, 1024);
+    put16(image + 1052, 16);
+    put32(image + 1054, 1);
+    put16(image + 1058, blocks);
+}
+
+/* A directory entry of 54 bytes for a file of 1,025 data bytes in two blocks of 1,024. */
+static void put_file(uint8_t *at, uint32_t number, unsigned first, const char *name)
+{
+    at[0] = 0x80;
+    put32(at + 18, number);
+    put16(at + 22, first);
+    put32(at + 24, 1025);
+    put32(at + 28, 2048);
+    at[50] = 2;
+    memcpy(at + 51, name, 2);
+}
+
+/* ---- answers, field by field: what stands between the fields is nothing */
+
+static int same_facts(mfs_facts a, mfs_facts b)
+{
+    return a.signature == b.signature && a.created == b.created && a.backup == b.backup && a.attributes == b.attributes
+        && a.files == b.files && a.directory_start == b.directory_start && a.directory_length == b.directory_length
+        && a.allocation_blocks == b.allocation_blocks && a.block_size == b.block_size && a.clump_size == b.clump_size
+        && a.allocation_start == b.allocation_start && a.next_number == b.next_number && a.free_blocks == b.free_blocks
+        && a.name_length == b.name_length && memcmp(a.name, b.name, 27) == 0;
+}
+
+static int same_fork(mfs_fork_facts a, mfs_fork_facts b)
+{
+    return a.start == b.start && a.logical == b.logical && a.physical == b.physical;
+}
+
+static int same_entry(mfs_directory_entry a, mfs_directory_entry b)
+{
+    return a.flags == b.flags && a.version == b.version && memcmp(a.finder, b.finder, 16) == 0 && a.number == b.number
+        && same_fork(a.data, b.data) && same_fork(a.resource, b.resource) && a.created == b.created && a.changed == b.changed
+        && a.name_length == b.name_length && memcmp(a.name, b.name, 255) == 0;
+}
+
+static const mfs_facts no_facts;
+static const mfs_directory_entry no_entry;
+
+static const mfs_directory_entry week1 = {
+    0x80, 0, {0}, 1, {2, 700, 1024}, {0, 0, 0}, 2500000000u, 2500600000u, 5, {'W', 'E', 'E', 'K', '1'}};
+static const mfs_directory_entry rates = {
+    0x80, 0, {0}, 2, {3, 512, 512}, {0, 0, 0}, 2500000000u, 2500000000u, 5, {'R', 'A', 'T', 'E', 'S'}};
+
+/* ---- refusals: the number, all other results zero, and neither image nor buffer changed */
+
+static void refuses_check(size_t length, uint8_t number)
+{
+    mfs_check_answer r = mfs_check(image, length);
+
+    EXPECT(r.number == number && same_facts(r.facts, no_facts) && as_wanted(length));
+}
+
+static void refuses_entry(size_t length, uint64_t place, uint8_t number)
+{
+    mfs_entry_answer r = mfs_entry(image, length, place);
+
+    EXPECT(r.number == number && same_entry(r.entry, no_entry) && as_wanted(length));
+}
+
+static void refuses_find(size_t length, const uint8_t *name, size_t size, uint8_t number)
+{
+    mfs_find_answer r = mfs_find(image, length, name, size);
+
+    EXPECT(r.number == number && r.place == 0 && same_entry(r.entry, no_entry) && as_wanted(length));
+}
+
+static void refuses_block(size_t length, const uint8_t *name, size_t size, uint64_t place, uint8_t number)
+{
+    mfs_block_answer r = mfs_block(image, length, name, size, MFS_DATA_FORK, place);
+
+    EXPECT(r.number == number && r.block == 0 && as_wanted(length));
+}
+
+static void refuses_read(size_t length, const uint8_t *name, size_t size, uint64_t offset, uint8_t number)
+{
+    uint8_t buffer[8] = "as lent";
+    mfs_read_answer r = mfs_read(image, length, name, size, MFS_DATA_FORK, offset, buffer, 8);
+
+    EXPECT(r.number == number && r.count == 0 && memcmp(buffer, "as lent", 8) == 0 && as_wanted(length));
+}
+
+static void refuses_create(size_t length, const uint8_t *name, size_t size, uint8_t number)
+{
+    EXPECT(mfs_create(image, length, name, size, finder, 1, 2) == number && as_wanted(length));
+}
+
+static void refuses_write(size_t length, const uint8_t *name, size_t size, uint64_t offset, uint8_t number)
+{
+    EXPECT(mfs_write(image, length, name, size, MFS_DATA_FORK, offset, finder, 16, 3) == number && as_wanted(length));
+}
+
+static void refuses_cut(size_t length, const uint8_t *name, size_t size, uint64_t to, uint8_t number)
+{
+    EXPECT(mfs_cut(image, length, name, size, MFS_DATA_FORK, to, 4) == number && as_wanted(length));
+}
+
+static void refuses_delete(size_t length, const uint8_t *name, size_t size, uint8_t number)
+{
+    EXPECT(mfs_delete(image, length, name, size) == number && as_wanted(length));
+}
+
+/* Write, cut and delete refuse to change this file. */
+static void no_change(const uint8_t *name, size_t size, uint8_t number)
+{
+    refuses_write(HALL, name, size, 0, number);
+    refuses_cut(HALL, name, size, 0, number);
+    refuses_delete(HALL, name, size, number);
+}
+
+static void all_nine_refuse(size_t length, uint8_t number)
+{
+    keep(length);
+    refuses_check(length, number);
+    refuses_entry(length, 0, number);
+    refuses_find(length, WEEK1, number);
+    refuses_block(length, WEEK1, 0, number);
+    refuses_read(length, WEEK1, 0, number);
+    refuses_create(length, THIRD, number);
+    refuses_write(length, WEEK1, 0, number);
+    refuses_cut(length, WEEK1, 0, number);
+    refuses_delete(length, WEEK1, number);
+}
+
+/* HALL with another byte is refused by all nine. */
+static void byte_refused(size_t at, uint8_t byte, uint8_t number)
+{
+    start();
+    image[at] = byte;
+    all_nine_refuse(HALL, number);
+}
+
+/* ---- the tests: known answers of each call */
+
+static void check_facts(void)
+{
+    mfs_facts f = {0xd2d7, 0, 0, 0, 2, 4, 1, 5, 512, 0, 5, 3, 2, 4, {'H', 'A', 'L', 'L'}};
+    mfs_check_answer r = mfs_check(image, HALL);
+
+    EXPECT(r.number == MFS_SUCCESS && same_facts(r.facts, f) && as_wanted(HALL));
+}
+
+static void check_every_field(void)
+{
+    mfs_facts f = {0xd2d7, 0x11223344, 0x55667788, 0x1234, 2, 4, 1, 5, 512, 0x99aabbcc, 5, 0xddeeff01, 2, 27,
+                   {1, 2, 3, 4, 5, 6, 7, 8, 9, 10, 11, 12, 13, 14, 15, 16, 17, 18, 19, 20, 21, 22, 23, 24, 25, 26, 27}};
+    mfs_check_answer r;
+    uint8_t i;
+
+    put32(image + 1026, f.created);
+    put32(image + 1030, f.backup);
+    put16(image + 1034, f.attributes);
+    put32(image + 1048, f.clump_size);
+    put32(image + 1054, f.next_number);
+    for (i = 0; i < 28; i++)
+        image[1060 + i] = i == 0 ? 27 : i;
+    keep(HALL);
+    r = mfs_check(image, HALL);
+    EXPECT(r.number == MFS_SUCCESS && same_facts(r.facts, f) && as_wanted(HALL));
+}
+
+static void entry_and_find(void)
+{
+    mfs_entry_answer e = mfs_entry(image, HALL, 0);
+    mfs_find_answer f = mfs_find(image, HALL, RATES);
+
+    EXPECT(e.number == MFS_SUCCESS && same_entry(e.entry, week1));
+    EXPECT(f.number == MFS_SUCCESS && f.place == 1 && same_entry(f.entry, rates));
+    e = mfs_entry(image, HALL, 1);
+    EXPECT(e.number == MFS_SUCCESS && same_entry(e.entry, rates));
+    f = mfs_find(image, HALL, WEEK1);
+    EXPECT(f.number == MFS_SUCCESS && f.place == 0 && same_entry(f.entry, week1) && as_wanted(HALL));
+}
+
+/* RATES with another value in each field of its entry, and a resource fork of 300 bytes in block 5. */
+static void entry_every_field(void)
+{
+    mfs_directory_entry d = {0xff, 0, {0}, 0x11223344, {3, 500, 512}, {5, 300, 512}, 0x55667788, 0x99aabbcc, 5,
+                             {'r', 0xe9, 't', 0, ' '}};
+    mfs_entry_answer e;
+    mfs_find_answer f;
+
+    memcpy(d.finder, finder, 16);
+    image[ENTRY2] = d.flags;
+    memcpy(image + ENTRY2 + 2, finder, 16);
+    put32(image + ENTRY2 + 18, d.number);
+    put32(image + ENTRY2 + 24, 500);
+    put16(image + ENTRY2 + 32, 5);
+    put32(image + ENTRY2 + 34, 300);
+    put32(image + ENTRY2 + 38, 512);
+    put32(image + ENTRY2 + 42, d.created);
+    put32(image + ENTRY2 + 46, d.changed);
+    memcpy(image + ENTRY2 + 51, d.name, 5);
+    memcpy(image + 1088, "\x00\x40\x01\x00\x10\x01", 6);
+    put16(image + 1058, 1);
+    put32(image + 1054, 0x11223345);
+    keep(HALL);
+    e = mfs_entry(image, HALL, 1);
+    EXPECT(e.number == MFS_SUCCESS && same_entry(e.entry, d));
+    f = mfs_find(image, HALL, (const uint8_t *)"R\xe9T\0 ", 5);
+    EXPECT(f.number == MFS_SUCCESS && f.place == 1 && same_entry(f.entry, d) && as_wanted(HALL));
+}
+
+static void blocks(void)
+{
+    mfs_block_answer a = mfs_block(image, HALL, WEEK1, MFS_DATA_FORK, 0);
+    mfs_block_answer b = mfs_block(image, HALL, WEEK1, MFS_DATA_FORK, 1);
+    mfs_block_answer c = mfs_block(image, HALL, RATES, MFS_DATA_FORK, 0);
+
+    EXPECT(a.number == MFS_SUCCESS && a.block == 2);
+    EXPECT(b.number == MFS_SUCCESS && b.block == 4);
+    EXPECT(c.number == MFS_SUCCESS && c.block == 3 && as_wanted(HALL));
+}
+
+/* The allocation blocks hold other bytes each, and the buffer is longer or shorter than what is left. */
+static void reads(void)
+{
+    uint8_t buffer[1000];
+    mfs_read_answer r;
+    size_t i;
+
+    for (i = BLOCK(2); i < HALL; i++)
+        image[i] = (uint8_t)(i * 7 + i / 256);
+    keep(HALL);
+    memset(buffer, 0xee, sizeof buffer);
+    r = mfs_read(image, HALL, WEEK1, MFS_DATA_FORK, 0, buffer, sizeof buffer);
+    EXPECT(r.number == MFS_SUCCESS && r.count == 700);
+    EXPECT(memcmp(buffer, want + BLOCK(2), 512) == 0 && memcmp(buffer + 512, want + BLOCK(4), 188) == 0);
+    EXPECT(buffer[700] == 0xee && memcmp(buffer + 700, buffer + 701, 299) == 0);
+    memset(buffer, 0xee, sizeof buffer);
+    r = mfs_read(image, HALL, WEEK1, MFS_DATA_FORK, 510, buffer, 5);
+    EXPECT(r.number == MFS_SUCCESS && r.count == 5 && buffer[5] == 0xee);
+    EXPECT(memcmp(buffer, want + BLOCK(2) + 510, 2) == 0 && memcmp(buffer + 2, want + BLOCK(4), 3) == 0);
+    r = mfs_read(image, HALL, WEEK1, MFS_DATA_FORK, 700, buffer, 5);
+    EXPECT(r.number == MFS_SUCCESS && r.count == 0 && as_wanted(HALL));
+    r = mfs_read(image, HALL, WEEK1, MFS_DATA_FORK, 0, buffer, 0);
+    EXPECT(r.number == MFS_SUCCESS && r.count == 0 && as_wanted(HALL));
+}
+
+static void creates(void)
+{
+    EXPECT(mfs_create(image, HALL, (const uint8_t *)"FOUR", 4, finder, 0x01020304, 0x05060708) == MFS_SUCCESS);
+    want[ENTRY3] = 0x80;
+    memcpy(want + ENTRY3 + 2, finder, 16);
+    put32(want + ENTRY3 + 18, 3);
+    put32(want + ENTRY3 + 42, 0x01020304);
+    put32(want + ENTRY3 + 46, 0x05060708);
+    memcpy(want + ENTRY3 + 50, "\4FOUR", 5);
+    put16(want + 1036, 3);
+    put32(want + 1054, 4);
+    EXPECT(as_wanted(HALL));
+}
+
+/* 0 is the data fork; 1 and every number above it is the resource fork. */
+static void fork_numbers(void)
+{
+    static const uint8_t numbers[3] = {MFS_RESOURCE_FORK, 2, 255};
+    uint8_t buffer[4];
+    mfs_find_answer f;
+    int i;
+
+    for (i = 0; i < 3; i++) {
+        uint8_t n = numbers[i];
+
+        start();
+        EXPECT(mfs_write(image, HALL, RATES, n, 0, (const uint8_t *)"tariff", 6, 9) == MFS_SUCCESS);
+        memcpy(want + BLOCK(5), "tariff", 6);
+        put16(want + ENTRY2 + 32, 5);
+        put32(want + ENTRY2 + 34, 6);
+        put32(want + ENTRY2 + 38, 512);
+        put32(want + ENTRY2 + 46, 9);
+        want_map("\x00\x40\x01\x00\x10\x01", 1);
+        EXPECT(as_wanted(HALL));
+        EXPECT(mfs_block(image, HALL, RATES, n, 0).block == 5 && mfs_block(image, HALL, RATES, 0, 0).block == 3);
+        EXPECT(mfs_read(image, HALL, RATES, n, 2, buffer, 4).count == 4 && memcmp(buffer, "riff", 4) == 0);
+        EXPECT(mfs_read(image, HALL, RATES, 0, 0, buffer, 4).count == 4 && memcmp(buffer, "\0\0\0\0", 4) == 0);
+        EXPECT(mfs_cut(image, HALL, RATES, n, 5, 10) == MFS_SUCCESS);
+        f = mfs_find(image, HALL, RATES);
+        EXPECT(f.entry.resource.logical == 5 && f.entry.data.logical == 512 && f.entry.changed == 10);
+        EXPECT(mfs_cut(image, HALL, RATES, 0, 0, 10) == MFS_SUCCESS);
+        f = mfs_find(image, HALL, RATES);
+        EXPECT(f.entry.resource.logical == 5 && f.entry.data.logical == 0 && f.entry.data.start == 0);
+    }
+}
+
+/* ---- the tests: document 01's P cases */
+
+/* ABC and DEF hex are no blocks' numbers: refused by 5. 12 31 87 is 123 and 187: two chains show both. */
+static void p1(void)
+{
+    memcpy(image + 1088, "\xab\xcd\xef", 3);
+    all_nine_refuse(HALL, MFS_BAD_MAP_ENTRY);
+    large(391);
+    memcpy(image + 1088, "\x12\x31\x87", 3);
+    image[1088 + (0x123 - 2) * 3 / 2 + 1] = 1;
+    image[1088 + (0x187 - 2) * 3 / 2 + 1] = 1;
+    put16(image + 1036, 2);
+    put32(image + 1054, 3);
+    put16(image + 1058, 387);
+    put_file(image + 2048, 1, 2, "XX");
+    put_file(image + 2048 + 54, 2, 3, "YY");
+    EXPECT(mfs_check(image, LARGE).number == MFS_SUCCESS);
+    EXPECT(mfs_block(image, LARGE, (const uint8_t *)"XX", 2, MFS_DATA_FORK, 1).block == 0x123);
+    EXPECT(mfs_block(image, LARGE, (const uint8_t *)"YY", 2, MFS_DATA_FORK, 1).block == 0x187);
+}
+
+static void p2(void)
+{
+    EXPECT(memcmp(image + 1088, "\x00\x40\x01\x00\x10\x00\x00", 7) == 0 && image[1095] < 0x10);
+}
+
+static void p3(void)
+{
+    uint8_t bytes[400];
+
+    memset(bytes, 0xa5, sizeof bytes);
+    EXPECT(mfs_write(image, HALL, WEEK1, MFS_DATA_FORK, 700, bytes, sizeof bytes, 77) == MFS_SUCCESS);
+    want_map("\x00\x40\x01\x00\x50\x01", 1);
+    want_week1(1100, 1536, 77);
+    memset(want + BLOCK(4) + 188, 0xa5, 324);
+    memset(want + BLOCK(5), 0xa5, 76);
+    EXPECT(as_wanted(HALL) && mfs_check(image, HALL).facts.free_blocks == 1);
+    EXPECT(mfs_block(image, HALL, WEEK1, MFS_DATA_FORK, 2).block == 5);
+}
+
+static void p4(void)
+{
+    uint8_t bytes[1348];
+
+    memset(bytes, 0xa5, sizeof bytes);
+    EXPECT(mfs_write(image, HALL, WEEK1, MFS_DATA_FORK, 700, bytes, sizeof bytes, 77) == MFS_SUCCESS);
+    want_map("\x00\x40\x01\x00\x50\x06", 0);
+    want[1095] = 0x10;
+    want_week1(2048, 2048, 77);
+    memset(want + BLOCK(4) + 188, 0xa5, 324);
+    memset(want + BLOCK(5), 0xa5, 1024);
+    EXPECT(as_wanted(HALL) && mfs_check(image, HALL).facts.free_blocks == 0);
+    EXPECT(mfs_block(image, HALL, WEEK1, MFS_DATA_FORK, 3).block == 6);
+    refuses_block(HALL, WEEK1, 4, MFS_BEHIND_END);
+}
+
+static void p5(void)
+{
+    static const uint8_t bytes[1349] = {1};
+
+    EXPECT(mfs_write(image, HALL, WEEK1, MFS_DATA_FORK, 700, bytes, sizeof bytes, 77) == MFS_DISK_FULL && as_wanted(HALL));
+}
+
+static void p6(void)
+{
+    EXPECT(mfs_write(image, HALL, WEEK1, MFS_DATA_FORK, 700, finder, 0, 77) == MFS_SUCCESS);
+    want_week1(700, 1024, 77);
+    EXPECT(as_wanted(HALL));
+    EXPECT(mfs_write(image, HALL, WEEK1, MFS_DATA_FORK, 701, finder, 0, 78) == MFS_BEHIND_END && as_wanted(HALL));
+}
+
+static void p7(void)
+{
+    EXPECT(mfs_cut(image, HALL, WEEK1, MFS_DATA_FORK, 513, 77) == MFS_SUCCESS);
+    want_week1(513, 1024, 77);
+    EXPECT(as_wanted(HALL));
+}
+
+static void p8(void)
+{
+    EXPECT(mfs_cut(image, HALL, WEEK1, MFS_DATA_FORK, 512, 77) == MFS_SUCCESS);
+    want_map("\x00\x10\x01\x00\x00\x00", 3);
+    want_week1(512, 512, 77);
+    EXPECT(as_wanted(HALL));
+}
+
+static void p9(void)
+{
+    EXPECT(mfs_delete(image, HALL, RATES) == MFS_SUCCESS);
+    want_map("\x00\x40\x00\x00\x10\x00", 3);
+    memset(want + ENTRY2, 0, 512 - 56);
+    put16(want + 1036, 1);
+    EXPECT(as_wanted(HALL));
+}
+
+static void p10(void)
+{
+    mfs_find_answer r = mfs_find(image, HALL, (const uint8_t *)"week1", 5);
+
+    EXPECT(r.number == MFS_SUCCESS && r.place == 0 && same_entry(r.entry, week1) && as_wanted(HALL));
+    refuses_create(HALL, (const uint8_t *)"week1", 5, MFS_NAME_EXISTS);
+}
+
+static void p11(void)
+{
+    byte_refused(1059, 3, MFS_BAD_FREE_COUNT);
+}
+
+static void p12(void)
+{
+    byte_refused(1092, 0x20, MFS_BAD_FORK);
+}
+
+static void of_800_blocks(void)
+{
+    large(391);
+    keep(LARGE);
+    EXPECT(mfs_check(image, LARGE).number == MFS_SUCCESS && as_wanted(LARGE));
+    large(392);
+    all_nine_refuse(LARGE, MFS_BAD_LAYOUT);
+}
+
+/* ---- the tests: each number that refuses */
+
+static void n1(void)
+{
+    all_nine_refuse(0, MFS_BAD_LENGTH);
+    all_nine_refuse(HALL - 1, MFS_BAD_LENGTH);
+    all_nine_refuse(7 * 512, MFS_BAD_LENGTH);
+    all_nine_refuse(MOST, MFS_BAD_LENGTH);
+}
+
+static void n2(void)
+{
+    byte_refused(1024, 0xd3, MFS_BAD_SIGNATURE);
+    byte_refused(1025, 0xd6, MFS_BAD_SIGNATURE);
+}
+
+static void n3(void)
+{
+    byte_refused(1047, 1, MFS_BAD_LAYOUT);
+    byte_refused(1043, 6, MFS_BAD_LAYOUT);
+    byte_refused(1057, 0, MFS_BAD_LAYOUT);
+}
+
+static void n4(void)
+{
+    byte_refused(1060, 28, MFS_BAD_VOLUME_NAME);
+}
+
+static void n5(void)
+{
+    byte_refused(1093, 7, MFS_BAD_MAP_ENTRY);
+}
+
+static void n6(void)
+{
+    byte_refused(ENTRY1 + 1, 1, MFS_BAD_ENTRY);
+    byte_refused(ENTRY2 + 50, 0, MFS_BAD_ENTRY);
+}
+
+static void n7(void)
+{
+    byte_refused(1037, 3, MFS_BAD_DIRECTORY);
+    byte_refused(ENTRY2 + 21, 1, MFS_BAD_DIRECTORY);
+}
+
+static void n8(void)
+{
+    byte_refused(ENTRY2 + 23, 4, MFS_BAD_FORK);
+}
+
+static void n9(void)
+{
+    byte_refused(1093, 1, MFS_BLOCK_OF_NO_FORK);
+}
+
+static void n10(void)
+{
+    byte_refused(1059, 1, MFS_BAD_FREE_COUNT);
+}
+
+static void n11(void)
+{
+    int at;
+
+    for (at = 1034; at <= 1035; at++) {
+        start();
+        image[at] = 0x80;
+        keep(HALL);
+        no_change(WEEK1, MFS_VOLUME_LOCKED);
+        refuses_create(HALL, THIRD, MFS_VOLUME_LOCKED);
+        EXPECT(mfs_check(image, HALL).number == MFS_SUCCESS && mfs_find(image, HALL, WEEK1).number == MFS_SUCCESS);
+    }
+}
+
+static void n12(void)
+{
+    static const uint8_t name[256] = "WEEK1";
+    size_t size;
+
+    for (size = 0; size <= 256; size += 256) {
+        refuses_find(HALL, name, size, MFS_BAD_NAME);
+        refuses_block(HALL, name, size, 0, MFS_BAD_NAME);
+        refuses_read(HALL, name, size, 0, MFS_BAD_NAME);
+        refuses_create(HALL, name, size, MFS_BAD_NAME);
+        no_change(name, size, MFS_BAD_NAME);
+    }
+}
+
+static void n13(void)
+{
+    refuses_entry(HALL, 2, MFS_NOT_FOUND);
+    refuses_entry(HALL, UINT64_MAX, MFS_NOT_FOUND);
+    refuses_find(HALL, THIRD, MFS_NOT_FOUND);
+    refuses_block(HALL, THIRD, 0, MFS_NOT_FOUND);
+    refuses_read(HALL, THIRD, 0, MFS_NOT_FOUND);
+    no_change(THIRD, MFS_NOT_FOUND);
+}
+
+static void n14(void)
+{
+    refuses_create(HALL, RATES, MFS_NAME_EXISTS);
+}
+
+static void n15(void)
+{
+    image[ENTRY1] = 0x81;
+    keep(HALL);
+    no_change(WEEK1, MFS_FILE_LOCKED);
+    EXPECT(mfs_find(image, HALL, WEEK1).entry.flags == 0x81);
+}
+
+static void n16(void)
+{
+    refuses_block(HALL, WEEK1, 2, MFS_BEHIND_END);
+    refuses_block(HALL, WEEK1, UINT64_MAX, MFS_BEHIND_END);
+    refuses_read(HALL, WEEK1, 701, MFS_BEHIND_END);
+    refuses_read(HALL, WEEK1, UINT64_MAX, MFS_BEHIND_END);
+    refuses_write(HALL, WEEK1, 701, MFS_BEHIND_END);
+    refuses_write(HALL, WEEK1, UINT64_MAX, MFS_BEHIND_END);
+    refuses_cut(HALL, WEEK1, 701, MFS_BEHIND_END);
+    refuses_cut(HALL, WEEK1, UINT64_MAX, MFS_BEHIND_END);
+}
+
+static void n17(void)
+{
+    static const uint8_t bytes[1025] = {1};
+
+    EXPECT(mfs_write(image, HALL, RATES, MFS_RESOURCE_FORK, 0, bytes, 1025, 5) == MFS_DISK_FULL && as_wanted(HALL));
+    EXPECT(mfs_write(image, HALL, RATES, MFS_RESOURCE_FORK, 0, bytes, 1024, 5) == MFS_SUCCESS);
+}
+
+/* The directory block has room for 400 bytes behind RATES: one entry of 306, and then none of 96. */
+static void n18(void)
+{
+    static uint8_t name[255];
+
+    memset(name, 'n', sizeof name);
+    EXPECT(mfs_create(image, HALL, name, 255, finder, 1, 2) == MFS_SUCCESS);
+    keep(HALL);
+    refuses_create(HALL, name, 44, MFS_DIRECTORY_FULL);
+    EXPECT(mfs_create(image, HALL, name, 43, finder, 1, 2) == MFS_SUCCESS);
+}
+
+static void n19(void)
+{
+    put32(image + 1054, 4294967295u);
+    keep(HALL);
+    refuses_create(HALL, THIRD, MFS_NO_FILE_NUMBER);
+}
+
+static const struct {
+    const char *name;
+    void (*run)(void);
+} tests[] = {
+    {"check: the facts of HALL", check_facts},
+    {"check: every field of the facts", check_every_field},
+    {"entry and find: the files of HALL", entry_and_find},
+    {"entry and find: every field of an entry", entry_every_field},
+    {"block: the blocks of HALL's files", blocks},
+    {"read: bytes, count and the buffer's rest", reads},
+    {"create: every byte of the image", creates},
+    {"write, block, read, cut: the fork's number", fork_numbers},
+    {"P1", p1},
+    {"P2", p2},
+    {"P3", p3},
+    {"P4", p4},
+    {"P5", p5},
+    {"P6", p6},
+    {"P7", p7},
+    {"P8", p8},
+    {"P9", p9},
+    {"P10", p10},
+    {"P11", p11},
+    {"P12", p12},
+    {"an 800-block image: 391 blocks, 392 blocks", of_800_blocks},
+    {"refused by 1", n1},
+    {"refused by 2", n2},
+    {"refused by 3", n3},
+    {"refused by 4", n4},
+    {"refused by 5", n5},
+    {"refused by 6", n6},
+    {"refused by 7", n7},
+    {"refused by 8", n8},
+    {"refused by 9", n9},
+    {"refused by 10", n10},
+    {"refused by 11", n11},
+    {"refused by 12", n12},
+    {"refused by 13", n13},
+    {"refused by 14", n14},
+    {"refused by 15", n15},
+    {"refused by 16", n16},
+    {"refused by 17", n17},
+    {"refused by 18", n18},
+    {"refused by 19", n19},
+};
+
+int main(int argc, char **argv)
+{
+    FILE *file = argc == 2 ? fopen(argv[1], "rb") : NULL;
+    int failed = 0;
+    size_t i;
+
+    if (file == NULL || fread(hall, 1, HALL, file) != HALL) {
+        fprintf(stderr, "usage: calls HALL-IMAGE\n");
+        return 2;
+    }
+    fclose(file);
+    for (i = 0; i < sizeof tests / sizeof tests[0]; i++) {
+        start();
+        good = 1;
+        tests[i].run();
+        printf("%s %s\n", good ? "ok" : "FAILED", tests[i].name);
+        failed |= !good;
+    }
+    return failed;
+}
