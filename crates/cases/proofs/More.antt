@@ -16,11 +16,11 @@ all-readings = row & row & row & row & row & row & row & row & row & row & row &
 
 all-changings : AllRight changings
 unfolding everything changings
-all-changings = row & row & row & row & row & row & row & row & row & row & row & row & row & row & row & row & row & row & row & end
+all-changings = row & row & row & row & row & row & row & row & row & row & row & row & row & row & row & row & row & row & row & row & end
 
 all-orders : AllRight orders
 unfolding everything orders
-all-orders = row & row & row & row & row & row & row & row & row & row & row & end
+all-orders = row & row & row & row & row & row & row & row & row & row & end
 
 all-foldings : AllRight foldings
 unfolding everything borderDisk foldings

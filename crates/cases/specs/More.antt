@@ -120,6 +120,7 @@ changings =
     ∷ refused 11 (delete WEEK1) (withBytes 1034 (u16 0x0080) hall)
     ∷ refused 11 (write [] Data 0 [] 9) (withBytes 1034 (u16 0x8000) hall)
     ∷ refused 15 (cut WEEK1 Data 0 9) (withBytes 2048 (0x81 ∷ []) hall)
+    ∷ refused 15 (delete WEEK1) (withBytes 2048 (0x81 ∷ []) hall)
     ∷ refused 13 (delete NEWS) hall
     ∷ []
 
@@ -133,22 +134,21 @@ orders =
     ∷ bad 6 (withBytes 2049 (1 ∷ []) (withBytes 1036 (u16 3) hall))
     ∷ bad 7 (withBytes 1036 (u16 3) (withBytes 2070 (u16 1) hall))
     ∷ bad 9 (withBytes 1093 (0x01 ∷ []) hall)
-    -- create 11 before 12, 14 before 19; write 15 before 16, 16 before 17; delete 15
+    -- create 11 before 12, 14 before 19; write 15 before 16, 16 before 17
     ∷ refused 11 (create [] (zeros 16) 7 8) (withBytes 1034 (u16 0x0080) hall)
     ∷ refused 14 (create week1 (zeros 16) 7 8) (withBytes 1054 (u32 4294967295) hall)
     ∷ refused 15 (write WEEK1 Data 701 [] 9) (withBytes 2048 (0x81 ∷ []) hall)
     ∷ refused 16 (write WEEK1 Data 701 (sample 0 1349) 9) hall
-    ∷ refused 15 (delete WEEK1) (withBytes 2048 (0x81 ∷ []) hall)
     ∷ []
 
--- HALL with a name of letters, a to z's first and last, and of bytes that are none: AZ@[ and 80 hex
+-- HALL, its first file being named A Z @ [ and 80 hex
 unfoldable pub borderDisk : List ℕ
 borderDisk = withBytes 2099 (65 ∷ 90 ∷ 64 ∷ 91 ∷ 0x80 ∷ []) hall
 
 -- a to z equal A to Z, every other byte equals only itself
 unfoldable pub foldings : List Row
 foldings =
-    -- az@[ is found; with ` for @, { for [, A0 and 8A hex for 80 it is not
+    -- az@[ and 80 hex is found; with ` for @, { for [, A0 or 8A hex for 80 it is not
     does borderDisk (block (97 ∷ 122 ∷ 64 ∷ 91 ∷ 0x80 ∷ []) Data 1) (tellsBlock 4) borderDisk
     ∷ refused 13 (find (65 ∷ 90 ∷ 96 ∷ 91 ∷ 0x80 ∷ [])) borderDisk
     ∷ refused 13 (find (65 ∷ 90 ∷ 64 ∷ 123 ∷ 0x80 ∷ [])) borderDisk
@@ -158,8 +158,8 @@ foldings =
     ∷ refused 13 (find (87 ∷ 69 ∷ 69 ∷ 75 ∷ 0x11 ∷ [])) hall
     ∷ []
 
--- a disk of that kind with bytes in its boot blocks, the first file's Finder information, the allocation blocks and the last
--- two blocks
+-- a disk of one directory block with bytes in its boot blocks, the first file's Finder information, the allocation blocks and
+-- the last two blocks
 unfoldable pub sampled : List ℕ → List ℕ
 sampled image = withBytes 0 (sample 0 1024) (withBytes 2050 (sample 0 16) (withBytes 2560 (sample 0 3584) image))
 
