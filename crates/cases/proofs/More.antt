@@ -2,21 +2,23 @@
 use mathlib.Core.Path.{refl}
 use Rattle.model.specs.Cases.{AllRight, end, _&_}
 use Rattle.model.proofs.Cases.{everything, row}
-use Rattle.cases.specs.More.{badVolumes, readings, changings, orders, borderDisk, foldings, sampled, wideDisk, wideGrown, contents, limited, Limits}
-use Rattle.cases.specs.More.{MoreCases}
+use Rattle.cases.specs.More.{badVolumes, readings, creations, changings, orders, borderDisk, foldings, sampled, contents, wideDisk, wideGrown, wideForks, limited, Limits, MoreCases}
 
 bad-volumes : AllRight badVolumes
 unfolding everything badVolumes
-bad-volumes = row & row & row & row & row & row & row & row & row & row & row & row & row & row & row & row & row & row & row & row & row & row & row & row &
-    row & row & row & row & row & row & row & row & end
+bad-volumes = row & row & row & row & row & row & row & row & row & row & row & row & row & row & row & row & row & row & row & row & row & row & row & row & row & row & row & row & row & row & row & row & end
 
 all-readings : AllRight readings
 unfolding everything readings
 all-readings = row & row & row & row & row & row & row & row & row & row & row & row & row & row & end
 
+all-creations : AllRight creations
+unfolding everything creations
+all-creations = row & row & row & row & row & row & row & end
+
 all-changings : AllRight changings
 unfolding everything changings
-all-changings = row & row & row & row & row & row & row & row & row & row & row & row & row & row & row & row & row & row & row & row & end
+all-changings = row & row & row & row & row & row & row & row & row & row & row & row & row & end
 
 all-orders : AllRight orders
 unfolding everything orders
@@ -27,8 +29,12 @@ unfolding everything borderDisk foldings
 all-foldings = row & row & row & row & row & row & end
 
 all-contents : AllRight contents
-unfolding everything sampled wideDisk wideGrown contents
-all-contents = row & row & row & row & row & row & row & row & end
+unfolding everything sampled contents
+all-contents = row & row & row & row & end
+
+all-wide-forks : AllRight wideForks
+unfolding everything sampled wideDisk wideGrown wideForks
+all-wide-forks = row & row & row & row & end
 
 limits : Limits
 unfolding everything limited Limits
@@ -36,4 +42,4 @@ limits = (refl, refl, refl, refl, refl, refl, refl, refl)
 
 pub more : MoreCases
 unfolding MoreCases
-more = (bad-volumes, all-readings, all-changings, all-orders, all-foldings, all-contents, limits)
+more = (bad-volumes, all-readings, all-creations, all-changings, all-orders, all-foldings, all-contents, all-wide-forks, limits)

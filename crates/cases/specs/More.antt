@@ -80,10 +80,10 @@ readings =
     ∷ does fullWeek (read WEEK1 Data 18446744073709551615 (replicate 3 0xee)) (only 16 (replicate 3 0xee)) fullWeek
     ∷ []
 
--- the calls that change
-unfoldable pub changings : List Row
-changings =
-    -- create: behind the last entry, into an earlier block that has room, also to its last byte, into the next where it has not
+-- create
+unfoldable pub creations : List Row
+creations =
+    -- behind the last entry, into an earlier block that has room, also to its last byte, into the next where it has not
     does hall (create NEWS (sample 0 16) 7 8) (only 0 [])
     (withBytes 1036 (u16 3) (withBytes 1054 (u32 4) (withBytes 2162 (sample 0 16)
     (withBytes 2160 (newsEntry 3 0) hall))))
@@ -95,11 +95,17 @@ changings =
     ∷ does twoBlocks (create (longName 67 157) (zeros 16) 7 8) (only 0 [])
     (withBytes 1036 (u16 3) (withBytes 1054 (u32 4)
     (withBytes 2616 (entryBytes 0x80 3 (zeros 10) (zeros 10) 7 8 (longName 67 157) []) twoBlocks)))
+    -- a directory block that is full
     ∷ does (longDisk 155) (find (longName 97 255)) (tellsEntry 0 (longFacts 255)) (longDisk 155)
     ∷ refused 18 (create NEWS (zeros 16) 7 8) (longDisk 155)
     ∷ refused 19 (create NEWS (zeros 16) 7 8) (withBytes 1054 (u32 4294967295) (longDisk 155))
+    ∷ []
+
+-- write, cut and delete
+unfoldable pub changings : List Row
+changings =
     -- write to an empty fork, and where the fork has blocks to spare
-    ∷ does hall (write RATES Resource 0 (sample 0 3) 9) (only 0 [])
+    does hall (write RATES Resource 0 (sample 0 3) 9) (only 0 [])
     (withBytes 1058 (u16 1) (withBytes 1093 (0x01 ∷ []) (withBytes 2136 (forkBytesOf 5 3 512) (withBytes 2150 (u32 9)
     (withBytes 4096 (sample 0 3) hall)))))
     ∷ does roomyDisk (write WEEK1 Data 100 (sample 0 924) 9) (only 0 [])
@@ -163,6 +169,23 @@ foldings =
 unfoldable pub sampled : List ℕ → List ℕ
 sampled image = withBytes 0 (sample 0 1024) (withBytes 2050 (sample 0 16) (withBytes 2560 (sample 0 3584) image))
 
+-- what stays where the blocks hold bytes
+unfoldable pub contents : List Row
+contents =
+    -- write keeps the fork's bytes before and behind, and those of a new block beyond the written ones
+    does (sampled hall) (write WEEK1 Data 100 (zeros 3) 9) (only 0 [])
+    (withBytes 2094 (u32 9) (withBytes 2660 (zeros 3) (sampled hall)))
+    ∷ does (sampled hall) (write WEEK1 Data 700 (zeros 400) 9) (only 0 [])
+    (withBytes 1058 (u16 1) (withBytes 1088 (0x00 ∷ 0x40 ∷ 0x01 ∷ 0x00 ∷ 0x50 ∷ 0x01 ∷ [])
+    (withWeek1 2 1100 1536 9 (withBytes 3772 (zeros 324) (withBytes 4096 (zeros 76) (sampled hall))))))
+    -- cut and delete keep the bytes of the blocks that become free
+    ∷ does (sampled hall) (cut WEEK1 Data 100 9) (only 0 [])
+    (withBytes 1058 (u16 3) (withBytes 1088 (0x00 ∷ 0x10 ∷ 0x01 ∷ 0x00 ∷ 0x00 ∷ []) (withWeek1 2 100 512 9 (sampled hall))))
+    ∷ does (sampled resourceDisk) (delete RATES) (only 0 [])
+    (withBytes 1036 (u16 1) (withBytes 1058 (u16 3) (withBytes 1088 (0x00 ∷ 0x40 ∷ 0x00 ∷ 0x00 ∷ 0x10 ∷ 0x00 ∷ [])
+    (withBytes 2104 (zeros 456) (sampled resourceDisk)))))
+    ∷ []
+
 -- A = 1,024 and N = 2: WEEK1 has 1,000 data bytes in block 3
 unfoldable pub wideDisk : List ℕ
 wideDisk =
@@ -185,23 +208,10 @@ wideGrown =
     withBytes 1058 (u16 0) (withBytes 1088 (0x00 ∷ 0x10 ∷ 0x02 ∷ [])
     (withWeek1 3 1100 2048 9 (withBytes 4584 (sample 7 24) (withBytes 2560 (sample 31 76) wideDisk))))
 
--- what stays where the blocks hold bytes, and blocks of another size
-unfoldable pub contents : List Row
-contents =
-    -- write keeps the fork's bytes before and behind, and those of a new block beyond the written ones
-    does (sampled hall) (write WEEK1 Data 100 (zeros 3) 9) (only 0 [])
-    (withBytes 2094 (u32 9) (withBytes 2660 (zeros 3) (sampled hall)))
-    ∷ does (sampled hall) (write WEEK1 Data 700 (zeros 400) 9) (only 0 [])
-    (withBytes 1058 (u16 1) (withBytes 1088 (0x00 ∷ 0x40 ∷ 0x01 ∷ 0x00 ∷ 0x50 ∷ 0x01 ∷ [])
-    (withWeek1 2 1100 1536 9 (withBytes 3772 (zeros 324) (withBytes 4096 (zeros 76) (sampled hall))))))
-    -- cut and delete keep the bytes of the blocks that become free
-    ∷ does (sampled hall) (cut WEEK1 Data 100 9) (only 0 [])
-    (withBytes 1058 (u16 3) (withBytes 1088 (0x00 ∷ 0x10 ∷ 0x01 ∷ 0x00 ∷ 0x00 ∷ []) (withWeek1 2 100 512 9 (sampled hall))))
-    ∷ does (sampled resourceDisk) (delete RATES) (only 0 [])
-    (withBytes 1036 (u16 1) (withBytes 1058 (u16 3) (withBytes 1088 (0x00 ∷ 0x40 ∷ 0x00 ∷ 0x00 ∷ 0x10 ∷ 0x00 ∷ [])
-    (withBytes 2104 (zeros 456) (sampled resourceDisk)))))
-    -- A = 1,024: write, block, read and cut over two blocks
-    ∷ does wideDisk (write WEEK1 Data 1000 (sample 7 100) 9) (only 0 []) wideGrown
+-- A = 1,024: a fork over two blocks
+unfoldable pub wideForks : List Row
+wideForks =
+    does wideDisk (write WEEK1 Data 1000 (sample 7 100) 9) (only 0 []) wideGrown
     ∷ does wideGrown (block WEEK1 Data 1) (tellsBlock 2) wideGrown
     ∷ does wideGrown (read WEEK1 Data 990 (zeros 120)) (tellsRead 110 (sample 2014 10 ++ (sample 7 100 ++ zeros 10))) wideGrown
     ∷ does wideGrown (cut WEEK1 Data 1024 9) (only 0 [])
@@ -233,8 +243,10 @@ unfoldable pub MoreCases : Type 0
 MoreCases =
     AllRight badVolumes
     × AllRight readings
+    × AllRight creations
     × AllRight changings
     × AllRight orders
     × AllRight foldings
     × AllRight contents
+    × AllRight wideForks
     × Limits
