@@ -2,11 +2,13 @@
 use mathlib.Core.Path.{refl}
 use Rattle.model.specs.Cases.{AllRight, end, _&_}
 use Rattle.model.proofs.Cases.{everything, row}
-use Rattle.cases.specs.More.{badVolumes, readings, creations, changings, orders, borderDisk, foldings, sampled, contents, wideDisk, wideGrown, wideForks, limited, Limits, MoreCases}
+use Rattle.cases.specs.More.{badVolumes, readings, creations, changings, orders, borderDisk, foldings, sampled, contents, wideDisk, wideGrown, wideForks}
+use Rattle.cases.specs.More.{limited, Limits, MoreCases}
 
 bad-volumes : AllRight badVolumes
 unfolding everything badVolumes
-bad-volumes = row & row & row & row & row & row & row & row & row & row & row & row & row & row & row & row & row & row & row & row & row & row & row & row & row & row & row & row & row & row & row & row & end
+bad-volumes = row & row & row & row & row & row & row & row & row & row & row & row & row & row & row & row & row & row & row & row & row & row & row & row &
+    row & row & row & row & row & row & row & row & end
 
 all-readings : AllRight readings
 unfolding everything readings
