@@ -65,37 +65,60 @@ rest-within a b k m h w e = omega arith
 joined : (s l : ℕ) → s + 51 + l ≡ s + (51 + l)
 joined s l = omega arith
 
+-- the store before each one; before the first, the start
+abbrev start : tie.After-put16-at → tie.Start
+start c = c .before .before .before .before
+
+abbrev flags-put : tie.After-put-bytes → tie.After-put16-at
+flags-put c = c .before .before .before .before .before
+
+abbrev finder-put : tie.After-put32-at → tie.After-put-bytes
+finder-put c = c .before .before .before .before
+
+abbrev number-put : tie.After-clear → tie.After-put32-at
+number-put c = c .before .before .before .before
+
+abbrev forks-put : tie.After-put32-at2 → tie.After-clear
+forks-put c = c .before .before .before .before
+
+abbrev created-put : tie.After-put32-at3 → tie.After-put32-at2
+created-put c = c .before .before .before .before
+
+abbrev changed-put : tie.After-put-bytes2 → tie.After-put32-at3
+changed-put c = c .before .before .before .before
+
+abbrev title-put : tie.After-clear2 → tie.After-put-bytes2
+title-put c = c .before .before .before .before
+
+-- the start, from the last of the dates
+abbrev begun : tie.After-put32-at3 → tie.Start
+begun c = start (flags-put (finder-put (number-put (forks-put (created-put c)))))
+
 -- behind each store
-after-flags : (c : tie.After-put16-at) → Room (c .before .before .before .before) (c .put16-at .last .0)
+after-flags : (c : tie.After-put16-at) → Room (start c) (c .put16-at .last .0)
 after-flags c = kept (room (c .before .before)) (c .put16-at .kept .0)
 
-after-finder : (c : tie.After-put-bytes) → Room (c .before .before .before .before .before .before .before .before .before) (c .put-bytes .last .0)
-after-finder c = kept (after-flags (c .before .before .before .before .before)) (c .put-bytes .kept .0)
+after-finder : (c : tie.After-put-bytes) → Room (start (flags-put c)) (c .put-bytes .last .0)
+after-finder c = kept (after-flags (flags-put c)) (c .put-bytes .kept .0)
 
-after-number : (c : tie.After-put32-at)
-    → Room (c .before .before .before .before .before .before .before .before .before .before .before .before .before) (c .put32-at .last .0)
-after-number c = kept (after-finder (c .before .before .before .before)) (c .put32-at .kept .0)
+after-number : (c : tie.After-put32-at) → Room (start (flags-put (finder-put c))) (c .put32-at .last .0)
+after-number c = kept (after-finder (finder-put c)) (c .put32-at .kept .0)
 
-after-forks : (c : tie.After-clear)
-    → Room (c .before .before .before .before .before .before .before .before .before .before .before .before .before .before .before .before .before)
-    (c .clear .last .0)
-after-forks c = kept (after-number (c .before .before .before .before)) (c .clear .kept .0)
+after-forks : (c : tie.After-clear) → Room (start (flags-put (finder-put (number-put c)))) (c .clear .last .0)
+after-forks c = kept (after-number (number-put c)) (c .clear .kept .0)
 
-after-created : (c : tie.After-put32-at2)
-    → Room (c .before .before .before .before .before .before .before .before .before .before .before .before .before .before .before .before .before .before .before .before .before) (c .put32-at2 .last .0)
-after-created c = kept (after-forks (c .before .before .before .before)) (c .put32-at2 .kept .0)
+after-created : (c : tie.After-put32-at2) → Room (start (flags-put (finder-put (number-put (forks-put c))))) (c .put32-at2 .last .0)
+after-created c = kept (after-forks (forks-put c)) (c .put32-at2 .kept .0)
 
-after-changed : (c : tie.After-put32-at3)
-    → Room (c .before .before .before .before .before .before .before .before .before .before .before .before .before .before .before .before .before .before .before .before .before .before .before .before .before) (c .put32-at3 .last .0)
-after-changed c = kept (after-created (c .before .before .before .before)) (c .put32-at3 .kept .0)
+after-changed : (c : tie.After-put32-at3) → Room (begun c) (c .put32-at3 .last .0)
+after-changed c = kept (after-created (created-put c)) (c .put32-at3 .kept .0)
 
-after-length : (c : tie.After-put32-at3)
-    → let a = c .before .before .before .before .before .before .before .before .before .before .before .before .before .before .before .before .before .before .before .before .before .before .before .before .before .args in Room (c .before .before .before .before .before .before .before .before .before .before .before .before .before .before .before .before .before .before .before .before .before .before .before .before .before) (set (c .put32-at3 .last .0) (a .base + a .end + 50) (length (now (a .name))))
+after-length : (c : tie.After-put32-at3) → let a = begun c .args in
+    Room (begun c) (set (c .put32-at3 .last .0) (a .base + a .end + 50) (length (now (a .name))))
 after-length c = kept (after-changed c) (length-set (c .put32-at3 .last .0) _ _)
 
-after-title : (c : tie.After-put-bytes2)
-    → Room (c .before .before .before .before .before .before .before .before .before .before .before .before .before .before .before .before .before .before .before .before .before .before .before .before .before .before .before .before .before) (c .put-bytes2 .last .0)
-after-title c = kept (after-length (c .before .before .before .before)) (c .put-bytes2 .kept .0)
+after-title : (c : tie.After-put-bytes2) → Room (begun (changed-put c)) (c .put-bytes2 .last .0)
+after-title c = kept (after-length (changed-put c)) (c .put-bytes2 .kept .0)
 
 add-at : tie.Need-add-at
 add-at c = search needs
@@ -143,8 +166,7 @@ title-fits : (l : ℕ) → l ≤ 255 → Fits w8 l
 title-fits l h = omega arith
 
 cast-image : tie.Need-cast-image
-cast-image c =
-    title-fits _ (c .before .before .before .before .before .before .before .before .before .before .before .before .before .before .before .before .before .before .before .before .before .before .before .before .before .before .before .pre .1 .2)
+cast-image c = title-fits _ (begun (c .before .before) .pre .1 .2)
 
 add-image : tie.Need-add-image
 add-image c = place (after-changed (c .before .before)) 50 (lit≤ tt)
@@ -159,7 +181,7 @@ put-bytes-requires-2 : tie.Need-put-bytes-requires-2
 put-bytes-requires-2 c κs = inside (after-length (c .before .before .before)) 51 _ (le-refl _)
 
 add-behind : tie.Need-add-behind
-add-behind c = place (after-changed (c .before .before .before .before .before .before)) 51 (lit≤ tt)
+add-behind c = place (after-changed (changed-put (c .before .before))) 51 (lit≤ tt)
 
 add-behind-2 : tie.Need-add-behind-2
 add-behind-2 c = let r = after-title (c .before .before) in end-fits _ _ _ (r .few) (r .room)
@@ -174,19 +196,19 @@ clear-requires-2 : tie.Need-clear-requires-2
 clear-requires-2 c κs = let r = after-title (c .before .before .before) in rest-within _ _ _ _ (end-within _ _ _ (r .room)) (r .within) (r .size)
 
 same-length : tie.Need-same-length
-same-length c = let k = c .before .before in k .clear2 .kept .0 ∙ after-title (k .before .before .before .before) .size
+same-length c = let k = c .before .before in k .clear2 .kept .0 ∙ after-title (title-put k) .size
 
 returns : tie.Need-returns
 returns c =
     let zeros = c .before .before in
-    let title = zeros .before .before .before .before in
-    let changed = title .before .before .before .before in
-    let created = changed .before .before .before .before in
-    let forks = created .before .before .before .before in
-    let number = forks .before .before .before .before in
-    let finder = number .before .before .before .before in
-    let flags = finder .before .before .before .before .before in
-    let s = flags .before .before .before .before in
+    let title = title-put zeros in
+    let changed = changed-put title in
+    let created = created-put changed in
+    let forks = forks-put created in
+    let number = number-put forks in
+    let finder = finder-put number in
+    let flags = flags-put finder in
+    let s = start flags in
     let a = s .args in
     inserted-stores (a .number) (now (a .name)) (now (a .finder)) (a .created) (a .changed) (finder .before .put-bytes-arg2 .given .0)
     (now (a .image)) (a .base) (a .end) (s .pre .0) (s .pre .1 .0) (s .pre .1 .1) _ _ _ _ _ _ _ _ _
