@@ -154,7 +154,8 @@ module _ (image : List ℕ) (base : ℕ) (e : EntryAt) (k : Block image base) (s
   unfolding every
   good-here =
       let all : every goodEntry (l .before ++ (bytesAt image e ∷ l .behind)) ≡ true = rw split-here at (block-clean image base k .good) in
-      let behind = and-true (every goodEntry (l .before)) (every goodEntry (bytesAt image e ∷ l .behind)) (sym (every-append goodEntry (l .before) (bytesAt image e ∷ l .behind)) ∙ all) .1 in
+      let parted = sym (every-append goodEntry (l .before) (bytesAt image e ∷ l .behind)) ∙ all in
+      let behind = and-true (every goodEntry (l .before)) (every goodEntry (bytesAt image e ∷ l .behind)) parted .1 in
       and-true (goodEntry (bytesAt image e)) (every goodEntry (l .behind)) behind .0
 
   pub size-here : length (bytesAt image e) ≡ padded (51 + e .«name_length»)

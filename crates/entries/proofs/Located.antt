@@ -196,7 +196,8 @@ module _ (f : VolumeFacts) (image : List ℕ) (e : EntryAt) (l : Lies image (512
       unfolding every
       entry-long =
           let all : every goodEntry (l .before ++ (bytesAt image e ∷ l .behind)) ≡ true = rw (l .split) at (own-clean .good) in
-          let behind = and-true (every goodEntry (l .before)) (every goodEntry (bytesAt image e ∷ l .behind)) (sym (every-append goodEntry (l .before) (bytesAt image e ∷ l .behind)) ∙ all) .1 in
+          let parted = sym (every-append goodEntry (l .before) (bytesAt image e ∷ l .behind)) ∙ all in
+          let behind = and-true (every goodEntry (l .before)) (every goodEntry (bytesAt image e ∷ l .behind)) parted .1 in
           good-long (bytesAt image e) (and-true (goodEntry (bytesAt image e)) (every goodEntry (l .behind)) behind .0)
 
       pub entry-within : length (flat (l .before)) + length (bytesAt image e) ≤ 512

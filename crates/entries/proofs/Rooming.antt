@@ -114,7 +114,8 @@ room-placed f image within clean e so left base end n r =
     let x = cutBlocks (r .index) d in
     let b = part base 512 image in
     let y = cutBlocks (dirLength f - (r .index + 1)) (drop (512 * (r .index + 1)) d) in
-    let own : part (512 * r .index) 512 d ≡ b = ap (take 512) (drop-drop (512 * r .index) (512 * dirStart f .0) image) ∙ ap (λ (p : ℕ). part p 512 image) (sym (r .block)) in
+    let own : part (512 * r .index) 512 d ≡ b =
+    ap (take 512) (drop-drop (512 * r .index) (512 * dirStart f .0) image) ∙ ap (λ (p : ℕ). part p 512 image) (sym (r .block)) in
     let whole : directoryBlocks f image ≡ x ++ (b ∷ y) = cut-at (r .index) (dirLength f) d (omega (arith, r .within)) ∙ ap (λ (t : List ℕ). x ++ (t ∷ y)) own in
     let parts : Cleans (x ++ (b ∷ y)) = rw whole at clean in
     let long = added-reads e b (clean-parts x (b ∷ y) parts .1 .0) so (r .room) .clean .long in

@@ -482,7 +482,8 @@ module _ (s : LogicalBlock) (a n free : ℕ) (l : List ℕ) (ar : Area s a n l) 
     both-in-map : InMap n (gs ++ rs)
     unfolding held
     both-in-map b q =
-        let u = part-used n (ar .few) (mapEntry l) (lists (mapEntry l) a p) (gs ∷ rs ∷ []) (lists (mapEntry l) a t) both-sound b (omega (arith, times-append b gs rs)) in
+        let u = part-used n (ar .few) (mapEntry l) (lists (mapEntry l) a p) (gs ∷ rs ∷ []) (lists (mapEntry l) a t) both-sound b
+        (omega (arith, times-append b gs rs)) in
         (u .low, u .high)
 
     pub delete-frame : Framed s a (bothBlocks (mapEntry l) a g r) l (putFree l (bothBlocks (mapEntry l) a g r))

@@ -97,7 +97,8 @@ found name bs d h =
     let x = a .0 in
     let b = a .1 in
     let y = a .2 in
-    let n : listing bs ≡ (listing x ++ entries b) ++ listing y = ap listing (a .3) ∙ listing-append x (b ∷ y) ∙ sym (append-assoc (listing x) (entries b) (listing y)) in
+    let n : listing bs ≡ (listing x ++ entries b) ++ listing y =
+    ap listing (a .3) ∙ listing-append x (b ∷ y) ∙ sym (append-assoc (listing x) (entries b) (listing y)) in
     let s : any (named name) (listing x ++ entries b) ≡ true = any-append (named name) (listing x) (entries b) ∙ rw (any-listing (named name) x ∙ a .4, a .5) in
     record {
       before = x;

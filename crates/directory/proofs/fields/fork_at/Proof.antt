@@ -28,7 +28,8 @@ be32-at-requires-2 c κs = search needs
 returns : tie.Need-returns
 returns c =
     let a = c .before .before .before .before .args in
-    let first : be16 (now (a .image)) (a .at) ≡ be16 (drop (a .at) (now (a .image))) 0 = sym (be16-drop (a .at) (now (a .image)) 0 ∙ ap (be16 (now (a .image))) (add-zero (a .at))) in
+    let first : be16 (now (a .image)) (a .at) ≡ be16 (drop (a .at) (now (a .image))) 0 =
+    sym (be16-drop (a .at) (now (a .image)) 0 ∙ ap (be16 (now (a .image))) (add-zero (a .at))) in
     fork-are (drop (a .at) (now (a .image))) _
     (c .before .before .be16-at .ensures ∙ first)
     (c .before .be32-at .ensures ∙ sym (be32-drop (a .at) (now (a .image)) 2))
