@@ -266,7 +266,8 @@ module _ (n : ℕ) (small : n ≤ 640) where
         claiming (replicate 642 0) (λ b. 0) gs (length-replicate {A = ℕ} 642 0) zero-marks (r .0)
         (λ b p.
         let i = owned-find e a gs b p in
-        let o = fork-block e n a (forkAt gs (i .0)) b (good-fork e n a (forkAt gs (i .0)) (every-at (goodFork e n a) (forkAt [] 0) gs (r .0) (i .0) (i .1))) (i .2) in
+        let g = every-at (goodFork e n a) (forkAt [] 0) gs (r .0) (i .0) (i .1) in
+        let o = fork-block e n a (forkAt gs (i .0)) b (good-fork e n a (forkAt gs (i .0)) g) (i .2) in
         let t = every-from (λ b. leb (times b (ownedBlocks e a gs)) 1) n 2 (r .1) b (o .0) (omega arith) in
         omega (arith, leb-true (times b (ownedBlocks e a gs)) 1 t))
 

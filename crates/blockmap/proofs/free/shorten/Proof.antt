@@ -32,9 +32,11 @@ same-length c = search needs
 
 returns-2 : tie.Need-returns-2
 returns-2 c =
-    let a = c .before .before .before .before .before .before .before .args in
-    c .before .before .free-chain .ensures
-    ∙ short-none (now (a .image)) (chainBlocks (mapEntry (now (a .image))) (a .k) (a .s .0)) (a .keep) (c .before .before .before .before .if2 .taken)
+    let freed = c .before .before in
+    let none = freed .before .before in
+    let a = none .before .before .before .args in
+    freed .free-chain .ensures
+    ∙ short-none (now (a .image)) (chainBlocks (mapEntry (now (a .image))) (a .k) (a .s .0)) (a .keep) (none .if2 .taken)
 
 sub-block-at : tie.Need-sub-block-at
 sub-block-at c = search needs
@@ -64,8 +66,15 @@ module _ (c : tie.After-block-at) where
   count : start .args .keep ≡ suc (start .args .keep - 1)
   count = omega arith
 
+-- it, from the load of its entry, and the load from the store
+abbrev at-last : tie.After-load → tie.After-block-at
+at-last c = c .before .before
+
+abbrev at-load : tie.After-store → tie.After-load
+at-load c = c .before .before
+
 load-requires : tie.Need-load-requires
-load-requires c κs = let b = block (c .before) in (b .0, b .1, c .before .before .before .before .before .before .pre .1)
+load-requires c κs = let b = block (c .before) in (b .0, b .1, start (c .before) .pre .1)
 
 store-requires : tie.Need-store-requires
 store-requires c κs =
@@ -78,12 +87,14 @@ sub-free-chain c = search needs
 
 free-chain-requires-2 : tie.Need-free-chain-requires-2
 free-chain-requires-2 c κs =
-    let d = c .before .before .before .before .before .before .before in
+    let put = c .before .before .before in
+    let read = at-load put in
+    let d = at-last read in
     let a = start d .args in
     let l = now (a .image) in
     let p = start d .pre in
-    let st = c .before .before .before .store in
-    let ld = c .before .before .before .before .before .load in (
+    let st = put .store in
+    let ld = read .load in (
       omega arith,
       omega (arith, p .1, ap length (st .ensures), length-setEntry l (d .block-at .result .0) 1),
       λ _. rest-runs (a .n) l (a .k) (a .s .0) (a .keep - 1) (p .0) (p .1) (chain d) (within d)
@@ -95,13 +106,16 @@ same-length-2 c = search needs
 
 returns-3 : tie.Need-returns-3
 returns-3 c =
-    let d = c .before .before .before .before .before .before .before .before .before .before in
+    let freed = c .before .before in
+    let put = freed .before .before .before .before in
+    let read = at-load put in
+    let d = at-last read in
     let a = start d .args in
     let l = now (a .image) in
     let p = start d .pre in
-    let st = c .before .before .before .before .before .before .store in
-    let ld = c .before .before .before .before .before .before .before .before .load in
-    c .before .before .free-chain2 .ensures
+    let st = put .store in
+    let ld = read .load in
+    freed .free-chain2 .ensures
     ∙ short-leaves (a .n) l (a .k) (a .s .0) (a .keep - 1) (p .0) (p .1) (chain d) (within d)
     (a .keep) (d .block-at .result .0) (st .last .0) (ld .result) (bytes (d .before .before .before .before)) (count d) (stands d) (st .ensures)
     (ld .ensures .0)
