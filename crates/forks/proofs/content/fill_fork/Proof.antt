@@ -49,6 +49,22 @@ module _ (s : tie.Start Inv-loop μ-loop) where
   bytes-few : Fits w64 (length (now (s .args .bytes)))
   bytes-few = omega (arith, s .good)
 
+-- the start, from where there are bytes; that place, from the loop; the loop, from a turn's place in the image; that, from the copy
+abbrev at-start : tie.Else1 Inv-loop μ-loop → tie.Start Inv-loop μ-loop
+at-start c = c .before .before .before
+
+abbrev at-some : tie.At-loop Inv-loop μ-loop → tie.Else1 Inv-loop μ-loop
+at-some c = c .before .before .before
+
+abbrev at-loop : tie.After-byte Inv-loop μ-loop → tie.At-loop Inv-loop μ-loop
+at-loop c = c .before .before .before
+
+abbrev at-place : tie.After-copy-part Inv-loop μ-loop → tie.After-byte Inv-loop μ-loop
+at-place c = c .before .before
+
+abbrev at-copy : tie.Else2 Inv-loop μ-loop → tie.After-copy-part Inv-loop μ-loop
+at-copy c = c .before .before .before
+
 -- no bytes
 returns : tie.Need-returns Inv-loop μ-loop
 returns c =
@@ -59,32 +75,32 @@ returns c =
 -- ---- before the loop
 
 div-block-at : tie.Need-div-block-at Inv-loop μ-loop
-div-block-at c = size-positive (c .before .before .before .before)
+div-block-at c = size-positive (at-start (c .before))
 
-some : (c : tie.Else1 Inv-loop μ-loop) → 1 ≤ length (now (c .before .before .before .args .bytes))
+some : (c : tie.Else1 Inv-loop μ-loop) → 1 ≤ length (now (at-start c .args .bytes))
 some c = omega (arith, c .if1 .left)
 
 cast-block-at : tie.Need-cast-block-at Inv-loop μ-loop
 cast-block-at c =
-    let f = c .before .before .before .before in
+    let f = at-start (c .before) in
     let a = f .args in
     place-fits _ (fill-small (now (a .image)) (a .start) (a .size) (a .first .0) (a .blocks) (f .pre .0) (a .offset) (now (a .bytes)) (f .pre .1)
     (some (c .before)))
 
 block-at-requires : tie.Need-block-at-requires Inv-loop μ-loop
 block-at-requires c κs =
-    let f = c .before .before .before .before in
+    let f = at-start (c .before) in
     let a = f .args in (
       fill-place (now (a .image)) (a .start) (a .size) (a .first .0) (a .blocks) (f .pre .0) (a .offset) (now (a .bytes)) (f .pre .1) (some (c .before)),
       image-long f,
     )
 
 rem-at : tie.Need-rem-at Inv-loop μ-loop
-rem-at c = size-positive (c .before .before .before .before .before)
+rem-at c = size-positive (at-start (c .before .before))
 
 loop-holds : tie.Need-loop-holds Inv-loop μ-loop
 loop-holds c =
-    let f = c .before .before .before .before .before in
+    let f = at-start (c .before .before) in
     let a = f .args in
     partway-first (now (a .image)) (a .start) (a .size) (now (a .bytes)) (c .block-at .result .0) (a .offset % a .size) (some (c .before .before))
     (mod-lt (a .offset) (size-positive f))
@@ -94,32 +110,32 @@ loop-holds c =
 -- the image that is due
 abbrev filled : tie.At-loop Inv-loop μ-loop → List ℕ
 filled c =
-    let a = c .before .before .before .before .before .before .args in
+    let a = at-start (at-some c) .args in
     putContent (a .start) (a .size) (now (a .image)) (chainBlocks (mapEntry (now (a .image))) (a .blocks) (a .first .0)) (a .offset) (now (a .bytes))
 
-begins : (c : tie.At-loop Inv-loop μ-loop) → let a = c .before .before .before .before .before .before .args in
+begins : (c : tie.At-loop Inv-loop μ-loop) → let a = at-start (at-some c) .args in
     Due (now (a .image)) (a .start) (a .size) (now (a .image)) (c .before .block-at .result .0) (a .offset % a .size) (now (a .bytes)) (filled c)
 begins c =
-    let f = c .before .before .before .before .before .before in
+    let f = at-start (at-some c) in
     let a = f .args in
     fill-due (now (a .image)) (a .start) (a .size) (a .first .0) (a .blocks) (f .pre .0) (a .offset) (now (a .bytes)) (f .pre .1)
-    (some (c .before .before .before))
+    (some (at-some c))
     (c .before .block-at .result .0) (c .before .block-at .ensures)
 
-goes-on : (c : tie.At-loop Inv-loop μ-loop) → let a = c .before .before .before .before .before .before .args in
+goes-on : (c : tie.At-loop Inv-loop μ-loop) → let a = at-start (at-some c) .args in
     Due (now (a .image)) (a .start) (a .size) (c .loop .image) (c .loop .block .0) (c .loop .at) (drop (c .loop .stored) (now (a .bytes))) (filled c)
 goes-on c = c .loop .inv .due (filled c) (begins c)
 
 numbered : (c : tie.At-loop Inv-loop μ-loop) → (2 ≤ c .loop .block .0) × (c .loop .block .0 ≤ 641)
 numbered c =
-    let a = c .before .before .before .before .before .before .args in
+    let a = at-start (at-some c) .args in
     due-block (now (a .image)) (a .start) (a .size) (c .loop .image) (c .loop .block .0) (c .loop .at) (drop (c .loop .stored) (now (a .bytes))) (filled c)
     (goes-on c)
 
-lies : (c : tie.At-loop Inv-loop μ-loop) → let a = c .before .before .before .before .before .before .args in
+lies : (c : tie.At-loop Inv-loop μ-loop) → let a = at-start (at-some c) .args in
     blockByte (a .start) (a .size) (c .loop .block) + a .size ≤ length (c .loop .image)
 lies c =
-    let a = c .before .before .before .before .before .before .args in
+    let a = at-start (at-some c) .args in
     due-lies (now (a .image)) (a .start) (a .size) (c .loop .image) (c .loop .block .0) (c .loop .at) (drop (c .loop .stored) (now (a .bytes))) (filled c)
     (goes-on c)
 
@@ -134,7 +150,7 @@ smaller-requires c κs = tt
 
 logical-requires : tie.Need-logical-requires Inv-loop μ-loop
 logical-requires c κs =
-    let h = c .before .before .before .before .before .before .before .pre .0 in
+    let h = at-start (at-some (c .before)) .pre .0 in
     let b = numbered (c .before) in
     (b .0, b .1, h .most, multiple _ (h .whole), h .start)
 
@@ -142,60 +158,60 @@ byte-requires : tie.Need-byte-requires Inv-loop μ-loop
 byte-requires c κs = tt
 
 -- where the bytes of this turn belong, and how many they are
-to-block : (c : tie.After-byte Inv-loop μ-loop) → let l = c .before .before .before in let a = l .before .before .before .before .before .before .args in
+to-block : (c : tie.After-byte Inv-loop μ-loop) → let l = at-loop c in let a = at-start (at-some l) .args in
     c .byte .result ≡ blockByte (a .start) (a .size) (l .loop .block)
 to-block c = c .byte .ensures ∙ c .before .logical .ensures
 
 abbrev number : tie.After-byte Inv-loop μ-loop → ℕ
 number c = c .before .before .smaller .result
 
-in-block : (c : tie.After-byte Inv-loop μ-loop) → let l = c .before .before .before in
-    l .loop .at + number c ≤ l .before .before .before .before .before .before .args .size
-in-block c = let m = c .before .before .before .loop .inv in turn-in-block _ _ _ _ _ (c .before .before .smaller .ensures) (m .here) (m .more)
+in-block : (c : tie.After-byte Inv-loop μ-loop) → let l = at-loop c in
+    l .loop .at + number c ≤ at-start (at-some l) .args .size
+in-block c = let m = at-loop c .loop .inv in turn-in-block _ _ _ _ _ (c .before .before .smaller .ensures) (m .here) (m .more)
 
-in-count : (c : tie.After-byte Inv-loop μ-loop) → let l = c .before .before .before in
-    l .loop .stored + number c ≤ length (now (l .before .before .before .before .before .before .args .bytes))
-in-count c = let m = c .before .before .before .loop .inv in turn-in-count _ _ _ _ _ (c .before .before .smaller .ensures) (m .here) (m .more)
+in-count : (c : tie.After-byte Inv-loop μ-loop) → let l = at-loop c in
+    l .loop .stored + number c ≤ length (now (at-start (at-some l) .args .bytes))
+in-count c = let m = at-loop c .loop .inv in turn-in-count _ _ _ _ _ (c .before .before .smaller .ensures) (m .here) (m .more)
 
 add-to : tie.Need-add-to Inv-loop μ-loop
 add-to c =
-    let l = c .before .before .before in
+    let l = at-loop c in
     let m = l .loop .inv in
-    let f = l .before .before .before .before .before .before in
+    let f = at-start (at-some l) in
     from-fits _ _ _ _ _ (to-block c) (still-within _ _ _ (lies l) (m .size)) (m .here) (image-few f)
 
 copy-part-requires : tie.Need-copy-part-requires Inv-loop μ-loop
 copy-part-requires c κs =
     let y = c .before in
-    let l = y .before .before .before in
+    let l = at-loop y in
     (in-count y, from-within _ _ _ _ _ _ (to-block y) (lies l) (in-block y))
 
 add-stored : tie.Need-add-stored Inv-loop μ-loop
 add-stored c =
     let y = c .before .before .before .before in
-    fits-le (in-count y) (bytes-few (y .before .before .before .before .before .before .before .before .before))
+    fits-le (in-count y) (bytes-few (at-start (at-some (at-loop y))))
 
 -- ---- after the store
 
 after : (c : tie.After-copy-part Inv-loop μ-loop)
-    → let y = c .before .before in let l = y .before .before .before in let a = l .before .before .before .before .before .before .args in
+    → let y = at-place c in let l = at-loop y in let a = at-start (at-some l) .args in
     c .copy-part .last .1 .1 .0
     ≡ paste (l .loop .image) (blockByte (a .start) (a .size) (l .loop .block) + l .loop .at) (drop (l .loop .stored) (now (a .bytes))) (number y)
 after c =
-    let y = c .before .before in
-    let l = y .before .before .before in
-    let a = l .before .before .before .before .before .before .args in
+    let y = at-place c in
+    let l = at-loop y in
+    let a = at-start (at-some l) .args in
     c .copy-part .ensures ∙ ap (λ q. paste (l .loop .image) (q + l .loop .at) (drop (l .loop .stored) (now (a .bytes))) (number y)) (to-block y)
 
 same-length : tie.Need-same-length Inv-loop μ-loop
-same-length c = let k = c .before .before .before in k .copy-part .kept .1 .1 .0 ∙ k .before .before .before .before .before .loop .inv .size
+same-length c = let k = c .before .before .before in k .copy-part .kept .1 .1 .0 ∙ at-loop (at-place k) .loop .inv .size
 
 returns-2 : tie.Need-returns-2 Inv-loop μ-loop
 returns-2 c =
     let k = c .before .before .before in
-    let y = k .before .before in
-    let l = y .before .before .before in
-    let a = l .before .before .before .before .before .before .args in
+    let y = at-place k in
+    let l = at-loop y in
+    let a = at-start (at-some l) .args in
     let end : l .loop .stored + number y ≡ length (now (a .bytes)) = all-done _ _ (in-count y) (c .if2 .taken) in
     after k
     ∙ partway-last (now (a .image)) (a .start) (a .size) (now (a .bytes)) (l .before .block-at .result .0) (a .offset % a .size) (l .loop .block .0)
@@ -204,23 +220,23 @@ returns-2 c =
 
 load-requires : tie.Need-load-requires Inv-loop μ-loop
 load-requires c κs =
-    let k = c .before .before .before .before in
-    let l = k .before .before .before .before .before in
+    let k = at-copy (c .before) in
+    let l = at-loop (at-place k) in
     let b = numbered l in
-    (b .0, b .1, same-long _ _ (k .copy-part .kept .1 .1 .0 ∙ l .loop .inv .size) (image-long (l .before .before .before .before .before .before)))
+    (b .0, b .1, same-long _ _ (k .copy-part .kept .1 .1 .0 ∙ l .loop .inv .size) (image-long (at-start (at-some l))))
 
 loop-less : tie.Need-loop-less Inv-loop μ-loop
 loop-less c =
-    let y = c .before .before .before .before .before .before .before in
-    let m = y .before .before .before .loop .inv in
+    let y = at-place (at-copy (c .before .before)) in
+    let m = at-loop y .loop .inv in
     turn-less _ _ _ _ _ (y .before .before .smaller .ensures) (m .here) (m .more)
 
 loop-again : tie.Need-loop-again Inv-loop μ-loop
 loop-again c =
-    let k = c .before .before .before .before .before in
-    let y = k .before .before in
-    let l = y .before .before .before in
-    let a = l .before .before .before .before .before .before .args in
+    let k = at-copy (c .before .before) in
+    let y = at-place k in
+    let l = at-loop y in
+    let a = at-start (at-some l) .args in
     let end : l .loop .at + number y ≡ a .size =
     turn-whole _ _ _ _ _ (y .before .before .smaller .ensures) (l .loop .inv .here) (l .loop .inv .more) (c .before .before .if2 .left) in
     partway-next (now (a .image)) (a .start) (a .size) (now (a .bytes)) (l .before .block-at .result .0) (a .offset % a .size) (l .loop .block .0)
