@@ -49,9 +49,19 @@ returns-9 c = layout-fires _ _ (λ s. never _ _ (c .if9 .taken) (s .dirBefore))
 cast-end : tie.Need-cast-end
 cast-end c = search needs
 
+-- the tests of N and of A, from the last of the directory, and the start
+abbrev at-if5 : tie.Else9 → tie.Else5
+at-if5 c = c .before .before .before .before
+
+abbrev at-if3 : tie.Else5 → tie.Else3
+at-if3 c = c .before .before
+
+abbrev start : tie.Else3 → tie.Start
+start c = c .before .before .before
+
 -- N and A, which are small by now
-area : (c : tie.Else9) → let f = c .before .before .before .before .before .before .before .before .before .args .f in N f * A f ≤ 20971520
-area c = area-fits _ _ (c .before .before .before .before .if5 .left) (c .before .before .before .before .before .before .if3 .left)
+area : (c : tie.Else9) → let f = start (at-if3 (at-if5 c)) .args .f in N f * A f ≤ 20971520
+area c = let k = at-if5 c in area-fits _ _ (k .if5 .left) (at-if3 k .if3 .left)
 
 -- so they and the place behind them fit
 small-fits : (p : ℕ) → p ≤ 20971520 → Fits w32 p
@@ -67,30 +77,34 @@ mul-end : tie.Need-mul-end
 mul-end c = small-fits _ (area c)
 
 add-end : tie.Need-add-end
-add-end c = end-fits _ _ (c .before .before .before .before .before .before .before .before .before .pre .allocation) (area c)
+add-end c = end-fits _ _ (start (at-if3 (at-if5 c)) .pre .allocation) (area c)
 
 sub-if10 : tie.Need-sub-if10
 sub-if10 c = search needs
 
 cast-if10 : tie.Need-cast-if10
-cast-if10 c = end-wide _ _ (c .before .before .before .before .before .before .before .before .before .pre .allocation) (area c)
+cast-if10 c = end-wide _ _ (start (at-if3 (at-if5 c)) .pre .allocation) (area c)
 
 returns-10 : tie.Need-returns-10
 returns-10 c = layout-fires _ _ (λ s. never _ _ (c .if10 .taken) (s .backup))
 
 returns-11 : tie.Need-returns-11
-returns-11 c = layout-left _ _ (record {
-  multiple = c .before .before .before .before .before .before .before .before .before .before .if1 .left;
-  large = c .before .before .before .before .before .before .before .before .before .if2 .left;
-  small = c .before .before .before .before .before .before .before .before .if3 .left;
-  some = c .before .before .before .before .before .before .before .if4 .left;
-  most = c .before .before .before .before .before .before .if5 .left;
-  dirSome = c .before .before .before .before .before .if6 .left;
-  dirMost = c .before .before .before .before .if7 .left;
-  dirBehind = c .before .before .before .if8 .left;
-  dirBefore = c .before .before .if9 .left;
-  backup = c .before .if10 .left;
-})
+returns-11 c =
+    let at9 = c .before .before in
+    let at5 = at-if5 at9 in
+    let at3 = at-if3 at5 in
+    layout-left _ _ (record {
+      multiple = at3 .before .before .if1 .left;
+      large = at3 .before .if2 .left;
+      small = at3 .if3 .left;
+      some = at5 .before .if4 .left;
+      most = at5 .if5 .left;
+      dirSome = at9 .before .before .before .if6 .left;
+      dirMost = at9 .before .before .if7 .left;
+      dirBehind = at9 .before .if8 .left;
+      dirBefore = at9 .if9 .left;
+      backup = c .before .if10 .left;
+    })
 
 pub bad-layout-spec : {M : Type 1} → statement M
 bad-layout-spec =

@@ -49,13 +49,23 @@ Left c u hs =
 first : (c : tie.After-e Inv-loop μ-loop) → Left c (at-loop c .loop .marks) (forkOf Data (bytes c) ∷ forkOf Resource (bytes c) ∷ forksIn (rest c))
 first c = onward-same _ _ _ _ _ _ (at-loop c .loop .inv .1) (forks-more _ _ _ (step c .rest))
 
+-- the entry, from its forks' reading; the data fork's, from its claim; the entry, from behind that claim
+abbrev at-entry : tie.After-read-fork Inv-loop μ-loop → tie.After-e Inv-loop μ-loop
+at-entry c = c .before .before
+
+abbrev at-read : tie.After-claim-fork Inv-loop μ-loop → tie.After-read-fork Inv-loop μ-loop
+at-read c = c .before .before
+
+abbrev entry : tie.Else1 Inv-loop μ-loop → tie.After-e Inv-loop μ-loop
+entry c = at-entry (at-read (c .before))
+
 -- and behind it
-second : (c : tie.Else1 Inv-loop μ-loop) → let k = c .before .before .before .before .before in
+second : (c : tie.Else1 Inv-loop μ-loop) → let k = entry c in
     Left k (c .before .claim-fork .last .1 .1 .1 .1 .0) (forkOf Resource (bytes k) ∷ forksIn (rest k))
 second c =
     let claim = c .before in
-    let read = claim .before .before in
-    onward-claim _ _ _ _ _ _ _ _ _ (first (read .before .before)) (read .read-fork .ensures) _ (claim .claim-fork .ensures .0) _
+    let read = at-read claim in
+    onward-claim _ _ _ _ _ _ _ _ _ (first (at-entry read)) (read .read-fork .ensures) _ (claim .claim-fork .ensures .0) _
     (not-false _ (c .if1 .left)) (claim .claim-fork .ensures .1)
 
 loop-holds : tie.Need-loop-holds Inv-loop μ-loop
@@ -71,19 +81,19 @@ read-fork-requires : tie.Need-read-fork-requires Inv-loop μ-loop
 read-fork-requires c κs = step (c .before) .stands
 
 claim-fork-requires : tie.Need-claim-fork-requires Inv-loop μ-loop
-claim-fork-requires c κs = c .before .before .before .before .before .before .before .before .pre .0
+claim-fork-requires c κs = start (at-loop (at-entry (c .before))) .pre .0
 
 returns : tie.Need-returns Inv-loop μ-loop
 returns c =
     let claim = c .before in
-    let read = claim .before .before in
-    onward-not _ _ _ _ _ _ _ _ _ (first (read .before .before)) (read .read-fork .ensures) _ (claim .claim-fork .ensures .0) _ (not-true _ (c .if1 .taken))
+    let read = at-read claim in
+    onward-not _ _ _ _ _ _ _ _ _ (first (at-entry read)) (read .read-fork .ensures) _ (claim .claim-fork .ensures .0) _ (not-true _ (c .if1 .taken))
 
 read-fork-requires-2 : tie.Need-read-fork-requires-2 Inv-loop μ-loop
-read-fork-requires-2 c κs = step (c .before .before .before .before .before) .stands
+read-fork-requires-2 c κs = step (entry c) .stands
 
 claim-fork-requires-2 : tie.Need-claim-fork-requires-2 Inv-loop μ-loop
-claim-fork-requires-2 c κs = c .before .before .before .before .before .before .before .before .before .before .before .before .pre .0
+claim-fork-requires-2 c κs = start (at-loop (entry (c .before .before))) .pre .0
 
 returns-2 : tie.Need-returns-2 Inv-loop μ-loop
 returns-2 c =
@@ -92,14 +102,14 @@ returns-2 c =
     onward-not _ _ _ _ _ _ _ _ _ (second (read .before)) (read .read-fork2 .ensures) _ (claim .claim-fork2 .ensures .0) _ (not-true _ (c .if2 .taken))
 
 loop-less : tie.Need-loop-less Inv-loop μ-loop
-loop-less c = step (c .before .before .before .before .before .before .before .before .before) .less
+loop-less c = step (entry (c .before .before .before .before)) .less
 
 loop-again : tie.Need-loop-again Inv-loop μ-loop
 loop-again c =
     let claim = c .before in
     let read = claim .before .before in
-    let k = read .before .before .before .before .before .before in
-    let l = k .before .before .before in (
+    let k = entry (read .before) in
+    let l = at-loop k in (
       passes-more (l .loop .inv .0) (step k),
       onward-claim _ _ _ _ _ _ _ _ _ (second (read .before)) (read .read-fork2 .ensures) _ (claim .claim-fork2 .ensures .0) _
           (not-false _ (c .if2 .left)) (claim .claim-fork2 .ensures .1),

@@ -20,10 +20,23 @@ facts-number-requires c κs = judged-sized _ _ (c .before .pre)
 returns : tie.Need-returns
 returns c = by-facts _ _ _ (c .before .facts-number .ensures) (c .if1 .taken)
 
+-- the start, from where checks 1 to 4 are passed; that place, from the test of the map; and where check 5 is passed, from the cursor
+abbrev start : tie.Else1 → tie.Start
+start c = c .before .before .before
+
+abbrev past-facts : tie.After-any-bad → tie.Else1
+past-facts c = c .before .before .before
+
+abbrev past-map : tie.After-new → tie.Else2
+past-map c = c .before .before
+
+abbrev at-facts : tie.After-new → tie.Else1
+at-facts c = past-facts (past-map c .before)
+
 -- checks 1 to 4 are passed
-sound : (c : tie.Else1) → let s = c .before .before .before in SoundFacts (s .args .f) (length (now (s .args .image)))
+sound : (c : tie.Else1) → let s = start c in SoundFacts (s .args .f) (length (now (s .args .image)))
 sound c =
-    let s = c .before .before .before in facts-sound (s .args .f) (now (s .args .image)) _ (c .before .facts-number .ensures) (c .if1 .left) (s .pre .long)
+    let s = start c in facts-sound (s .args .f) (now (s .args .image)) _ (c .before .facts-number .ensures) (c .if1 .left) (s .pre .long)
 
 decode-requires : tie.Need-decode-requires
 decode-requires c κs = let s = sound c in (s .most, omega arith)
@@ -33,26 +46,24 @@ any-bad-requires c κs = sound (c .before .before) .most
 
 -- what the decoded map says of check 5, the image's says
 five : (c : tie.After-any-bad)
-    → let s = c .before .before .before .before .before .before in fires5 (mapEntry (now (s .args .image))) (N (s .args .f)) ≡ c .any-bad .result
+    → let s = start (past-facts c) in fires5 (mapEntry (now (s .args .image))) (N (s .args .f)) ≡ c .any-bad .result
 five c = sym (c .any-bad .ensures ∙ five-alike _ _ _ (c .before .before .decode .ensures .same))
 
 returns-2 : tie.Need-returns-2
 returns-2 c =
-    let facts = c .before .before .before .before in
+    let facts = past-facts (c .before) in
     by-map5 _ _ _ (facts .before .facts-number .ensures) (facts .if1 .left) (five (c .before) ∙ c .if2 .taken)
 
 new-requires : tie.Need-new-requires
-new-requires c κs = sound (c .before .before .before .before .before) .dirSome
+new-requires c κs = sound (past-facts (c .before .before)) .dirSome
 
 -- the cursor's entries are the directory
-entries : (c : tie.After-new)
-    → let s = c .before .before .before .before .before .before .before .before .before in restOf (now (s .args .image)) (c .new .result) ≡ directory
-    (now (s .args .image))
-entries c = rest-directory _ _ (c .before .before .before .before .before .before .before .before .before .pre .facts) _ (c .new .ensures)
+entries : (c : tie.After-new) → let s = start (at-facts c) in
+    restOf (now (s .args .image)) (c .new .result) ≡ directory (now (s .args .image))
+entries c = rest-directory _ _ (start (at-facts c) .pre .facts) _ (c .new .ensures)
 
-fits : (c : tie.After-new)
-    → let s = c .before .before .before .before .before .before .before .before .before in CursorFits (now (s .args .image)) (c .new .result)
-fits c = let s = sound (c .before .before .before .before .before .before) in begins-fits _ _ _ _ (c .new .ensures) (omega arith)
+fits : (c : tie.After-new) → let s = start (at-facts c) in CursorFits (now (s .args .image)) (c .new .result)
+fits c = let s = sound (at-facts c) in begins-fits _ _ _ _ (c .new .ensures) (omega arith)
 
 directory-number-requires : tie.Need-directory-number-requires
 directory-number-requires c κs = fits c
@@ -60,8 +71,8 @@ directory-number-requires c κs = fits c
 returns-3 : tie.Need-returns-3
 returns-3 c =
     let new = c .before .before in
-    let map = new .before .before in
-    let facts = map .before .before .before .before in
+    let map = past-map new in
+    let facts = past-facts (map .before) in
     by-directory _ _ _ (facts .before .facts-number .ensures) (facts .if1 .left) (five (map .before)
     ∙ map .if2 .left) _ (entries new) _ (c .before .directory-number .ensures) (c .if3 .taken)
 
@@ -69,7 +80,7 @@ map-number-requires : tie.Need-map-number-requires
 map-number-requires c κs =
     let past = c .before in
     let new = past .before .before in
-    let decode = new .before .before .before .before .before in record {
+    let decode = past-map new .before .before .before in record {
       facts = sound (decode .before);
       passes = record { fits = fits new; good = directory-passes _ _ _ _ (past .before .directory-number .ensures) (past .if3 .left) };
       decoded = decode .decode .ensures;
@@ -80,8 +91,8 @@ returns-4 c =
     let past = c .before .before in
     let directory = past .before in
     let new = directory .before in
-    let map = new .before .before in
-    let facts = map .before .before .before .before in
+    let map = past-map new in
+    let facts = past-facts (map .before) in
     by-forks _ _ _ (facts .before .facts-number .ensures) (facts .if1 .left) (five (map .before)
     ∙ map .if2 .left) _ (entries new) _ (directory .directory-number .ensures) (past .if3 .left) _ (c .map-number .ensures)
 
