@@ -1,0 +1,160 @@
+//! The library on the disk HALL: the worked cases of document 01, refusals, and lengths of the image.
+
+#![allow(clippy::unwrap_used, clippy::expect_used, clippy::indexing_slicing)]
+
+use mfs::{Fork, ForkFacts, Refusal, Volume};
+
+const DATE: u32 = 2_600_000_000;
+
+fn hall() -> Vec<u8> {
+    let path = concat!(env!("CARGO_MANIFEST_DIR"), "/../../samples/hall.img");
+    std::fs::read(path).expect("the disk HALL")
+}
+
+fn blocks(image: &[u8], name: &[u8]) -> Vec<u16> {
+    (0..)
+        .map_while(|place| Volume::block(image, name, Fork::Data, place).ok())
+        .collect()
+}
+
+/// The number of a change that must be refused and leave every byte.
+fn refused(change: impl FnOnce(&mut [u8]) -> Result<(), Refusal>) -> u8 {
+    let mut image = hall();
+    let refusal = change(&mut image).expect_err("a refusal");
+    assert_eq!(image, hall());
+    refusal.number()
+}
+
+#[test]
+fn facts_and_entries() {
+    let image = hall();
+    let facts = Volume::check(&image).unwrap();
+    assert_eq!((facts.signature, facts.name.as_slice()), (0xD2D7, &b"HALL"[..]));
+    assert_eq!((facts.files, facts.free_blocks, facts.allocation_blocks), (2, 2, 5));
+    assert_eq!(
+        (facts.directory_start, facts.directory_length, facts.allocation_start),
+        (4, 1, 5)
+    );
+    assert_eq!((facts.block_size, facts.next_number, facts.blocks()), (512, 3, 2..=6));
+    assert!(!facts.is_locked());
+    let entries = Volume::entries(&image).unwrap();
+    let seen: Vec<_> = entries
+        .iter()
+        .map(|e| (e.number, e.data.logical, e.resource.logical, &e.name[..]))
+        .collect();
+    assert_eq!(seen, [(1, 700, 0, &b"WEEK1"[..]), (2, 512, 0, &b"RATES"[..])]);
+    assert_eq!((entries[0].created, entries[0].changed), (2_500_000_000, 2_500_600_000));
+    assert_eq!(
+        (entries[1].flags, entries[1].is_locked(), entries[1].finder),
+        (0x80, false, [0; 16])
+    );
+    assert_eq!(Volume::entry(&image, 2).map_err(Refusal::number), Err(13));
+    assert_eq!(Volume::entry(&image, u64::MAX).map_err(Refusal::number), Err(13));
+}
+
+#[test]
+fn find_block_and_read() {
+    let image = hall();
+    let (place, entry) = Volume::find(&image, b"rates").unwrap();
+    assert_eq!((place, entry.name.as_slice()), (1, &b"RATES"[..]));
+    assert_eq!(
+        (blocks(&image, b"week1"), blocks(&image, b"RATES")),
+        (vec![2, 4], vec![3])
+    );
+    let mut buffer = [9; 800];
+    assert_eq!(Volume::read(&image, b"WEEK1", Fork::Data, 1, &mut buffer), Ok(699));
+    assert_eq!(buffer[699..], [9; 101]);
+    assert_eq!(Volume::read(&image, b"WEEK1", Fork::Data, 700, &mut []), Ok(0));
+    assert_eq!(
+        Volume::read(&image, b"WEEK1", Fork::Resource, 1, &mut buffer).map_err(Refusal::number),
+        Err(16)
+    );
+    assert_eq!(
+        Volume::read_all(&image, b"WEEK1", Fork::Data).map(|bytes| bytes.len()),
+        Ok(700)
+    );
+    for (name, number) in [(&b""[..], 12), (&[b'x'; 256], 12), (&[b'x'; 255], 13), (b"WEEK", 13)] {
+        assert_eq!(Volume::find(&image, name).map_err(Refusal::number).err(), Some(number));
+    }
+}
+
+#[test]
+fn writes() {
+    let mut image = hall();
+    let bytes: Vec<u8> = (0..400).map(|i| i as u8).collect();
+    Volume::write(&mut image, b"WEEK1", Fork::Data, 700, &bytes, DATE).unwrap();
+    assert_eq!(blocks(&image, b"WEEK1"), [2, 4, 5]);
+    let (_, week) = Volume::find(&image, b"WEEK1").unwrap();
+    let wanted = ForkFacts {
+        start: 2,
+        logical: 1100,
+        physical: 1536,
+    };
+    assert_eq!((week.fork(Fork::Data), week.changed), (wanted, DATE));
+    assert_eq!(Volume::read_all(&image, b"WEEK1", Fork::Data).unwrap()[700..], bytes);
+    Volume::write(&mut image, b"RATES", Fork::Resource, 0, &[7; 512], DATE).unwrap();
+    assert_eq!(Volume::read_all(&image, b"RATES", Fork::Resource).unwrap(), [7; 512]);
+    assert_eq!(Volume::check(&image).unwrap().free_blocks, 0);
+    assert_eq!(
+        refused(|image| Volume::write(image, b"WEEK1", Fork::Data, 700, &[1; 1349], DATE)),
+        17
+    );
+    assert_eq!(
+        refused(|image| Volume::write(image, b"WEEK1", Fork::Data, 701, &[], DATE)),
+        16
+    );
+}
+
+#[test]
+fn cuts_and_deletes() {
+    let mut image = hall();
+    Volume::cut(&mut image, b"WEEK1", Fork::Data, 512, DATE).unwrap();
+    assert_eq!(
+        (blocks(&image, b"WEEK1"), Volume::check(&image).unwrap().free_blocks),
+        (vec![2], 3)
+    );
+    assert_eq!(refused(|image| Volume::cut(image, b"WEEK1", Fork::Data, 701, DATE)), 16);
+    Volume::delete(&mut image, b"rates").unwrap();
+    assert_eq!(Volume::entries(&image).unwrap().len(), 1);
+    assert_eq!(refused(|image| Volume::delete(image, b"none")), 13);
+}
+
+#[test]
+fn creates() {
+    let mut image = hall();
+    Volume::create(&mut image, b"Tarif \x8E", &[5; 16], 8, 9).unwrap();
+    let entry = Volume::entry(&image, 2).unwrap();
+    assert_eq!(
+        (entry.number, entry.name.as_slice(), entry.finder),
+        (3, &b"Tarif \x8E"[..], [5; 16])
+    );
+    assert_eq!((entry.created, entry.changed, entry.flags), (8, 9, 0x80));
+    assert_eq!(refused(|image| Volume::create(image, b"week1", &[0; 16], 1, 2)), 14);
+    let mut locked = hall();
+    locked[1034] = 0x80;
+    assert!(Volume::check(&locked).unwrap().is_locked());
+    assert_eq!(
+        Volume::create(&mut locked, b"", &[0; 16], 1, 2).map_err(Refusal::number),
+        Err(11)
+    );
+}
+
+#[test]
+fn lengths_of_the_image() {
+    for length in [0, 1, 511, 512, 3584, 4095, 6143, 65_536 * 512] {
+        let mut image = vec![0; length];
+        assert_eq!(Volume::check(&image).map_err(Refusal::number), Err(1));
+        assert_eq!(Volume::delete(&mut image, b"WEEK1").map_err(Refusal::number), Err(1));
+    }
+    assert_eq!(Volume::check(&[0; 4096]).map_err(Refusal::number), Err(2));
+}
+
+#[test]
+fn words() {
+    let refusal = Volume::check(&[]).expect_err("a refusal");
+    let text = refusal.to_string();
+    assert!(text.starts_with("refused 1: the length"), "{text}");
+    let mut image = hall();
+    image[1059] = 3;
+    assert_eq!(Volume::check(&image).map_err(Refusal::number), Err(10));
+}

@@ -1,0 +1,150 @@
+//! The verbs that change an image. Each makes its calls on a copy, and the copy is saved if none was refused.
+
+use std::ffi::OsStr;
+use std::path::Path;
+
+use mfs::Volume;
+
+use super::{misused, name, refused, unfit};
+use crate::args::Arguments;
+use crate::dates;
+use crate::failure::Failure;
+use crate::files;
+use crate::names;
+use crate::save::Target;
+use crate::session::Session;
+
+const NO_DATE: &str = "--date is missing: a disk keeps the dates of the desk's own clock, which nobody but you knows. \
+                       Give 'YYYY-MM-DD HH:MM:SS', @N for the stored number, or now for this machine's local clock";
+
+/// Makes calls on a copy of an image, and saves it if they were done.
+fn change(path: &OsStr, calls: impl FnOnce(&mut [u8]) -> Result<(), Failure>) -> Result<(), Failure> {
+    let about = |words: String| Failure::about(&names::path(path), words);
+    let target = Target::open(path).map_err(about)?;
+    let Some(old) = target.old() else {
+        return Err(about("there is no such file".to_string()));
+    };
+    let read = files::contents(old).map_err(|error| about(files::unread(&error)))?;
+    let mut image = read.clone();
+    calls(&mut image)?;
+    target.replace(&image, Some(&read)).map_err(about)
+}
+
+/// The date that `--date` gives.
+fn date(arguments: &Arguments) -> Result<u32, Failure> {
+    let given = arguments.value("--date").ok_or_else(|| misused(NO_DATE))?;
+    dates::parsed(given).map_err(misused)
+}
+
+/// `put`: the file is created, or its fork is cut to nothing; then the bytes are written.
+pub fn put(arguments: &Arguments, _: &mut Session) -> Result<(), Failure> {
+    let (path, file) = (arguments.operand(0), arguments.operand(1));
+    let date = date(arguments)?;
+    let name = name_for(arguments, file)?;
+    let finder = finder(arguments)?;
+    let fork = arguments.fork();
+    change(path, |image| {
+        let bytes = files::read_or_input(file)?;
+        // where find refuses, create says why
+        let ready = match Volume::find(image, &name) {
+            Ok(_) => Volume::cut(image, &name, fork, 0, date),
+            Err(_) => Volume::create(image, &name, &finder, date, date),
+        };
+        let done = ready.and_then(|()| Volume::write(image, &name, fork, 0, &bytes, date));
+        done.map_err(refused(path))
+    })
+}
+
+/// The name that a new file gets: what `--as` gives, or its own on this machine.
+fn name_for(arguments: &Arguments, file: &OsStr) -> Result<Vec<u8>, Failure> {
+    if let Some(given) = arguments.value("--as") {
+        return name(given);
+    }
+    let own = match Path::new(file).file_name() {
+        Some(own) if file != "-" => own,
+        _ => return Err(misused("the file has no name here: give one by --as")),
+    };
+    names::of_file(own).map_err(|why| unfit("the name", own, &format!("{why}; give another by --as")))
+}
+
+/// The Finder's bytes of a new file.
+fn finder(arguments: &Arguments) -> Result<[u8; 16], Failure> {
+    let mut finder = [0; 16];
+    let (kind, rest) = finder.split_at_mut(4);
+    let (creator, _) = rest.split_at_mut(4);
+    for (option, four) in [("--type", kind), ("--creator", creator)] {
+        match arguments.value(option) {
+            None => four.copy_from_slice(b"????"),
+            Some(given) => match names::parsed(given) {
+                Ok(bytes) if bytes.len() == four.len() => four.copy_from_slice(&bytes),
+                Ok(_) => return Err(unfit(option, given, "it is not four characters")),
+                Err(why) => return Err(unfit(option, given, &why)),
+            },
+        }
+    }
+    Ok(finder)
+}
+
+/// `append`: bytes written at the fork's end.
+pub fn append(arguments: &Arguments, _: &mut Session) -> Result<(), Failure> {
+    let (path, file) = (arguments.operand(0), arguments.operand(2));
+    let date = date(arguments)?;
+    let name = name(arguments.operand(1))?;
+    let fork = arguments.fork();
+    change(path, |image| {
+        let bytes = files::read_or_input(file)?;
+        // where find refuses, write does too, and says why
+        let found = Volume::find(image, &name);
+        let end = found.map_or(0, |(_, entry)| entry.fork(fork).logical);
+        Volume::write(image, &name, fork, end.into(), &bytes, date).map_err(refused(path))
+    })
+}
+
+/// `cut`: the fork's first bytes stay.
+pub fn cut(arguments: &Arguments, _: &mut Session) -> Result<(), Failure> {
+    let path = arguments.operand(0);
+    let date = date(arguments)?;
+    let name = name(arguments.operand(1))?;
+    let length = length(arguments.operand(2))?;
+    let cut = |image: &mut [u8]| Volume::cut(image, &name, arguments.fork(), length, date);
+    change(path, |image| cut(image).map_err(refused(path)))
+}
+
+fn length(given: &OsStr) -> Result<u64, Failure> {
+    let digits = given
+        .to_str()
+        .filter(|text| text.bytes().all(|byte| byte.is_ascii_digit()));
+    let length = digits.and_then(|digits| digits.parse().ok());
+    length.ok_or_else(|| {
+        unfit(
+            "the length",
+            given,
+            &format!("it is not a number from 0 to {}", u64::MAX),
+        )
+    })
+}
+
+/// `delete`: all files named, or none.
+pub fn delete(arguments: &Arguments, session: &mut Session) -> Result<(), Failure> {
+    let path = arguments.operand(0);
+    let given = arguments.operands().get(1..).unwrap_or_default();
+    let names: Result<Vec<_>, _> = given.iter().map(|given| name(given)).collect();
+    let names = names?;
+    change(path, |image| {
+        let mut last = Ok(());
+        for name in &names {
+            let Err(refusal) = Volume::delete(image, name) else {
+                continue;
+            };
+            if let Err(earlier) = &last {
+                session.report(earlier);
+            }
+            last = Err(Failure::Refused {
+                image: names::path(path),
+                refusal,
+                name: (names.len() > 1).then(|| names::shown(name)),
+            });
+        }
+        last
+    })
+}

@@ -1,0 +1,50 @@
+//! The verb `help`.
+
+use std::ffi::OsString;
+
+use super::{unknown, Verb, VERBS};
+use crate::failure::Failure;
+use crate::names;
+use crate::session::Session;
+
+const NOTES: &str = "\
+-r is the resource fork; without it the data fork. FILE may be - for standard input. -- ends the options.
+NAME is text for Mac OS Roman, with \\xNN for any byte and \\\\ for a backslash.
+DATE is 'YYYY-MM-DD HH:MM:SS' by the desk's own clock, @N for the stored number, or now, this machine's local clock.
+Exit status: 0 done; 1 refused by a call; 2 the command could not be carried out.
+";
+
+/// Shows all verbs, or one.
+pub fn help(words: &[OsString], session: &mut Session) -> Result<(), Failure> {
+    match words {
+        [] => session.show(all()),
+        [name] if name == "help" => session.show("usage: mfs help [VERB]\n"),
+        [name] => match VERBS.iter().find(|verb| name == verb.name) {
+            Some(verb) => session.show(one(verb)),
+            None => Err(unknown(format!("there is no verb {}", names::path(name)))),
+        },
+        [_, surplus, ..] => Err(unknown(format!("help: {} is too much", names::path(surplus)))),
+    }
+}
+
+fn all() -> String {
+    let mut text = String::from("mfs: what can be done with an MFS disk image\n\n");
+    for verb in &VERBS {
+        text.push_str(&line(verb.name, verb.takes, verb.does));
+    }
+    text.push_str(&line("help", "[VERB]", "this, or more on one verb"));
+    text + "\n" + NOTES
+}
+
+/// A verb's arguments and, on a line of its own, what it does.
+fn line(name: &str, takes: &str, does: &str) -> String {
+    format!("  mfs {name} {takes}\n      {does}\n")
+}
+
+fn one(verb: &Verb) -> String {
+    let mut text = format!("{}\n\n{}\n", verb.usage(), verb.does);
+    if !verb.more.is_empty() {
+        text.push_str(&format!("{}\n", verb.more));
+    }
+    text + "\n" + NOTES
+}
