@@ -1,4 +1,4 @@
-"""Writes the sample disk and the programs' tests into a repository.
+"""Writes the sample disks and the programs' tests into a repository.
 
     generate.py [ROOT] [--check] [--counts] [--calls reading|all]
     generate.py --bad DIR
@@ -21,6 +21,7 @@ import listing
 import maker
 import replay
 import volume
+import water
 
 # Which of the two lists of calls is the repository's: 'reading' or 'all'.
 CALLS = 'all'
@@ -440,6 +441,7 @@ def all_files(calls):
     tape = make_list(calls)
     return {
         'samples/hall.img': disk,
+        'samples/water.img': bytes(water.water()),
         'crates/list/stdin': disk,
         'crates/list/stdout': listing.listing(disk),
         'crates/replay/stdin': tape.input(),
@@ -562,7 +564,7 @@ def differing(root, files):
 def main():
     here = os.path.dirname(os.path.abspath(__file__))
     parser = argparse.ArgumentParser(
-        description='Writes the sample disk and the programs\' tests.')
+        description='Writes the sample disks and the programs\' tests.')
     parser.add_argument('root', nargs='?',
                         default=os.path.dirname(os.path.dirname(here)),
                         help='the repository (default: the one of this file)')
