@@ -8,10 +8,12 @@ use crate::names;
 use crate::session::Session;
 
 const NOTES: &str = "\
--r is the resource fork; without it the data fork. FILE may be - for standard input. -- ends the options.
-NAME is text for Mac OS Roman, with \\xNN for any byte and \\\\ for a backslash.
-DATE is 'YYYY-MM-DD HH:MM:SS' by the desk's own clock, @N for the stored number, or now, this machine's local clock.
-Exit status: 0 done; 1 refused by a call; 2 the command could not be carried out.
+-r is the resource fork; without it the data fork.
+FILE may be - for standard input. Options may stand anywhere; -- ends them.
+NAME is text for Mac OS Roman, \\xNN for any byte, \\\\ for a backslash.
+DATE is 'YYYY-MM-DD HH:MM:SS' by the desk's own clock, @N for the stored
+number, or now, this machine's local clock.
+Exit status: 0 done; 1 refused by a call; 2 could not be carried out.
 ";
 
 /// Shows all verbs, or one.
@@ -42,9 +44,5 @@ fn line(name: &str, takes: &str, does: &str) -> String {
 }
 
 fn one(verb: &Verb) -> String {
-    let mut text = format!("{}\n\n{}\n", verb.usage(), verb.does);
-    if !verb.more.is_empty() {
-        text.push_str(&format!("{}\n", verb.more));
-    }
-    text + "\n" + NOTES
+    format!("{}\n\n{}\n{}\n{NOTES}", verb.usage(), verb.does, verb.more)
 }

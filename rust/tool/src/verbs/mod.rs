@@ -45,9 +45,11 @@ const VERBS: [Verb; 9] = [
         name: "list",
         takes: "[-l | --json] IMAGE",
         does: "the files of a disk",
-        more:
-            "Without an option: a line for the volume, then for each file its number, data and resource length, dates \
-               of creation\nand change as stored, and name. -l is a table for people.",
+        more: "\
+Without an option: a line for the volume, then for each file its number, data
+and resource length, dates of creation and change as stored, and name; bytes
+outside 20 to 7E hex are shown as ?. -l is a table for people.
+",
         options: &["-l", "--json"],
         fewest: 1,
         most: 1,
@@ -67,7 +69,10 @@ const VERBS: [Verb; 9] = [
         name: "map",
         takes: "IMAGE",
         does: "a picture of the allocation blocks, and whose they are",
-        more: "A dot is a free block, a letter a fork's; the legend names each fork with its blocks in order.",
+        more: "\
+A dot is a free block and a letter a fork's; the legend has each fork with its
+blocks in order. With more than 52 forks the letters come again.
+",
         options: &[],
         fewest: 1,
         most: 1,
@@ -77,7 +82,9 @@ const VERBS: [Verb; 9] = [
         name: "get",
         takes: "[-r] IMAGE NAME [FILE]",
         does: "a fork's bytes into a file",
-        more: "Without FILE, or for -, they go to standard output.",
+        more: "\
+Without FILE, or for -, they go to standard output.
+",
         options: &["-r"],
         fewest: 2,
         most: 3,
@@ -87,8 +94,11 @@ const VERBS: [Verb; 9] = [
         name: "put",
         takes: "[-r] [--as NAME] [--type XXXX] [--creator XXXX] --date DATE IMAGE FILE",
         does: "a file of the same bytes: created, or its fork replaced",
-        more: "The name is FILE's own without --as. A file that is there keeps its number, type, creator and creation \
-               date.\nA new one has the type and creator given, ???? where there is none.",
+        more: "\
+Without --as the name is FILE's own. A file that is there keeps its number,
+type, creator and creation date. A new one has the type and creator given,
+???? for each that is not.
+",
         options: &["-r", "--as", "--type", "--creator", "--date"],
         fewest: 2,
         most: 2,
