@@ -1,0 +1,246 @@
+"""put, append, cut and delete against the second program: the whole image
+after each command, and the number of each refusal."""
+
+import collections
+import random
+
+from support import (Case, DATE, as_text, generate, hall, maker, volume,
+                     water)
+
+FINDER = b'????????' + bytes(8)
+
+
+def put(image, name, fork, data, date, finder=FINDER):
+    """What put does, by the second program's calls on a copy."""
+    copy = bytearray(image)
+    if volume.find(copy, name)[0] == 0:
+        number = volume.cut(copy, name, fork, 0, date)
+    else:
+        number = volume.create(copy, name, finder, date, date)
+    number = number or volume.write(copy, name, fork, 0, data, date)
+    return number, image if number else copy
+
+
+def append(image, name, fork, data, date):
+    copy = bytearray(image)
+    end = volume.find(copy, name)[2].forks[fork].logical
+    return volume.write(copy, name, fork, end, data, date), copy
+
+
+def cut(image, name, fork, length, date):
+    copy = bytearray(image)
+    return volume.cut(copy, name, fork, length, date), copy
+
+
+def delete(image, names):
+    copy = bytearray(image)
+    numbers = [volume.delete(copy, name) for name in names]
+    return [n for n in numbers if n], image if any(numbers) else copy
+
+
+class Changing(Case):
+
+    def compare(self, wanted, *args, stdin=b''):
+        """Runs a command; the image and the refusals must be as wanted."""
+        numbers, image = wanted
+        if isinstance(numbers, int):
+            numbers = [numbers] if numbers else []
+        ran = self.run_tool(*args, stdin=stdin)
+        self.assertEqual((ran.status, ran.refusals(), ran.out),
+                         (1 if numbers else 0, numbers, b''), (args, ran))
+        self.assertEqual(ran.err.count('\n'), len(numbers))
+        self.assertEqual(self.read(), image)
+        self.only('disk.img')
+        self.seen.update([(args[0], n) for n in numbers or [0]])
+        return image
+
+    def setUp(self):
+        super().setUp()
+        self.seen = collections.Counter()
+
+    def some_command(self, rng, image):
+        """A command by chance, run and compared; gives the image after it."""
+        state = generate.chooser.state_of_volume(volume.Volume(image))
+        name, own = generate.chooser.name_for(rng, state, 0.7)
+        if rng.random() < 0.3:
+            name = maker.any_name(rng, rng.randint(1, 40))
+        fork = rng.randrange(2)
+        date = rng.getrandbits(32)
+        options = ['-r'] * fork + ['--date', '@%d' % date]
+        room = state.free * state.block_size
+        data = maker.some_bytes(rng, rng.choice((
+            0, 1, rng.randint(0, 700), rng.randint(0, 3000), room, room + 1)))
+        verb = rng.choice(('put', 'put', 'append', 'append', 'cut', 'delete'))
+        rest = [self.image, as_text(name)]
+        if verb == 'put':
+            kind = bytes(rng.randrange(256) for _ in range(8))
+            options += ['--as', rest.pop(), '--type=' + as_text(kind[:4]),
+                        '--creator', as_text(kind[4:])]
+            wanted = put(image, name, fork, data, date, kind + bytes(8))
+            rest.append('-')
+        elif verb == 'append':
+            wanted = append(image, name, fork, data, date)
+            rest.append('-')
+        elif verb == 'cut':
+            logical = state.forks[own][fork][0] if own is not None else 0
+            length = generate.chooser.some_offset(rng, state, logical)
+            wanted = cut(image, name, fork, length, date)
+            rest.append(str(length))
+        else:
+            names = [name] + rng.sample(state.names, min(
+                len(state.names), rng.choice((0, 0, 0, 1, 2))))
+            wanted = delete(image, names)
+            options, rest = [], [self.image, *map(as_text, names)]
+        words = [verb, *options, '--', *rest]
+        return self.compare(wanted, *words, stdin=data)
+
+    def test_by_chance(self):
+        rng = random.Random(33)
+        for i in range(70):
+            m = generate.small_volume(rng, i)
+            image = m.image()
+            self.write(image)
+            for _ in range(12):
+                image = self.some_command(rng, image)
+        for verb, numbers in (('put', (0, 11, 12, 15, 17, 18, 19)),
+                              ('append', (0, 11, 12, 13, 15, 17)),
+                              ('cut', (0, 11, 12, 13, 15, 16)),
+                              ('delete', (0, 11, 12, 13, 15))):
+            for number in numbers:
+                self.assertGreater(self.seen[verb, number], 0, (verb, number))
+
+    def test_put_from_a_file(self):
+        image = water()
+        self.write(image)
+        data = b'new tariff\r' * 300
+        source = self.path('Tariff')
+        for name in ('Tariff', 'August \u00e9t\u00e9'):
+            self.write(data, name)
+            _, image = put(image, name.encode('mac_roman'), 0, data, DATE)
+            self.done('put', '--date=@%d' % DATE, self.image, self.path(name))
+            self.assertEqual(self.read(), image)
+        self.assertEqual(self.done('get', self.image, 'tariff'), data)
+        # the name of a path's last part; options behind the operands
+        _, image = put(image, b'Tariff', 1, data, 7, FINDER)
+        self.done('put', self.image, source, '-r', '--date', '@7')
+        self.assertEqual(self.read(), image)
+
+    def test_put_keeps_what_is_there(self):
+        image = water()
+        self.write(image)
+        before = volume.find(image, b'Hall display')[2]
+        self.done('put', '--as', 'HALL DISPLAY', '--type', 'XXXX',
+                  '--creator', 'YYYY', '--date', '@5', self.image, '-',
+                  stdin=b'data')
+        after = volume.find(bytearray(self.read()), b'Hall display')[2]
+        self.assertEqual(
+            (after.name, after.number, after.finder, after.created),
+            (before.name, before.number, before.finder, before.created))
+        self.assertEqual((after.changed, after.forks[1]),
+                         (5, before.forks[1]))
+        self.assertEqual(after.forks[0].logical, 4)
+
+    def test_locked_comes_first(self):
+        image = hall.hall()
+        image[1034] = 0x80
+        self.write(image)
+        for name in ('WEEK1', 'none', '', 'x' * 256):
+            self.compare((11, image), 'append', '--date=@1', self.image, name,
+                         '-')
+            self.compare((11, image), 'put', '--date=@1', '--as', name,
+                         self.image, '-')
+            self.compare((11, image), 'cut', '--date=@1', self.image, name,
+                         '9999')
+            self.compare((11, image), 'delete', self.image, name)
+
+    def test_full_disks(self):
+        """17 and 18, the edge of each, and nothing saved."""
+        image = hall.hall()
+        self.write(image)
+        for verb, name in (('append', 'WEEK1'), ('put', 'RATES')):
+            for length in (1348, 1349, 1536, 1537, 2000, 40000):
+                data = b'x' * length
+                self.write(image)
+                if verb == 'append':
+                    self.compare(append(image, b'WEEK1', 0, data, 1), 'append',
+                                 '--date=@1', self.image, name, '-',
+                                 stdin=data)
+                else:
+                    self.compare(put(image, b'RATES', 0, data, 1), 'put',
+                                 '--date=@1', '--as', name, self.image, '-',
+                                 stdin=data)
+        # put creates the file only where its bytes have room too
+        self.write(image)
+        for length, number in ((1025, 17), (1024, 0)):
+            wanted = put(image, b'NEW', 0, bytes(length), 1)
+            self.assertEqual(wanted[0], number)
+            self.compare(wanted, 'put', '--date=@1', '--as=NEW', self.image,
+                         '-', stdin=bytes(length))
+        # the directory
+        self.write(image)
+        while True:
+            name = b'Name %d' % volume.check(image)[1].files
+            wanted = put(image, name, 0, b'', 1)
+            image = self.compare(wanted, 'put', '--date=@1', '--as',
+                                 name.decode(), self.image, '-')
+            if wanted[0]:
+                self.assertEqual(wanted[0], 18)
+                break
+
+    def test_delete_all_or_none(self):
+        image = water()
+        self.write(image)
+        self.compare(delete(image, [b'Week 01', b'none', b'Meters', b'Log']),
+                     'delete', self.image, 'Week 01', 'none', 'Meters', 'Log')
+        self.compare(delete(image, [b'Week 01', b'week 01']), 'delete',
+                     self.image, 'Week 01', 'week 01')
+        ran = self.run_tool('delete', self.image, 'Week 01', 'none')
+        self.assertIn('(none)', ran.err)
+        image = self.compare(delete(image, [b'Week 01', b'Log']), 'delete',
+                             self.image, 'week 01', 'LOG')
+        self.compare(delete(image, [b'Tariff']), 'delete', self.image,
+                     'Tariff')
+
+    def test_endless_input(self):
+        image = water()
+        self.write(image)
+        self.compare((17, image), 'put', '--date=@1', '--as=Z', self.image,
+                     '/dev/zero')
+        self.compare((17, image), 'append', '--date=@1', self.image, 'Log',
+                     '/dev/zero')
+
+    def test_largest_shapes(self):
+        rng = random.Random(34)
+        for shape in (maker.disk_400k, maker.disk_400k_of_640,
+                      maker.longest_directory, maker.largest_blocks,
+                      maker.most_blocks, maker.every_byte):
+            image = shape(rng).image()
+            self.write(image)
+            for _ in range(8):
+                image = self.some_command(rng, image)
+
+    def test_the_disk_of_document_01(self):
+        """P3 to P10."""
+        image = hall.hall()
+        new = b'0123456789abcdef' * 100
+        for wanted, args, data in (
+                (append(image, b'WEEK1', 0, new[:400], DATE),
+                 ('append', 'WEEK1', '-'), new[:400]),
+                (append(image, b'WEEK1', 0, new[:1348], DATE),
+                 ('append', 'WEEK1', '-'), new[:1348]),
+                (append(image, b'WEEK1', 0, new[:1349], DATE),
+                 ('append', 'WEEK1', '-'), new[:1349]),
+                (append(image, b'WEEK1', 0, b'', DATE),
+                 ('append', 'WEEK1', '-'), b''),
+                (cut(image, b'WEEK1', 0, 513, DATE), ('cut', 'WEEK1', '513'),
+                 b''),
+                (cut(image, b'WEEK1', 0, 512, DATE), ('cut', 'WEEK1', '512'),
+                 b''),
+                (cut(image, b'WEEK1', 0, 701, DATE), ('cut', 'WEEK1', '701'),
+                 b'')):
+            self.write(image)
+            verb, *rest = args
+            self.compare(wanted, verb, '--date', '1983-03-30 06:53:20',
+                         self.image, *rest, stdin=data)
+        self.write(image)
+        self.compare(delete(image, [b'RATES']), 'delete', self.image, 'RATES')
