@@ -12,6 +12,7 @@ use std::os::unix::fs::{fchown, FileExt, MetadataExt, OpenOptionsExt, Permission
 use std::path::{Path, PathBuf};
 
 use crate::files;
+use crate::names;
 
 /// How often an open or a link is tried again.
 const TRIES: usize = 40;
@@ -130,10 +131,15 @@ impl Temporary {
                 }
                 Err(error) => return Err(unsaved(&error)),
             };
-            lock(&file)?;
-            if is_named(&file, &path) {
-                let renamed = false;
-                return Ok(Temporary { path, file, renamed });
+            let made = Temporary {
+                path: path.clone(),
+                file,
+                renamed: false,
+            };
+            lock(&made.file)?;
+            // before it was locked, another run may have taken it for one that was left
+            if is_named(&made.file, &made.path) {
+                return Ok(made);
             }
         }
         Err(BUSY.to_string())
@@ -142,7 +148,7 @@ impl Temporary {
 
 impl Drop for Temporary {
     fn drop(&mut self) {
-        if !self.renamed {
+        if !self.renamed && is_named(&self.file, &self.path) {
             let _ = fs::remove_file(&self.path);
         }
     }
@@ -159,7 +165,8 @@ fn temporary_path(path: &Path) -> PathBuf {
 
 /// Takes away the temporary file that a killed run has left. One that is locked is another run's.
 fn take_away_left(path: &Path) -> Result<(), String> {
-    let in_the_way = |error: io::Error| format!("{} is in the way: {}", path.display(), files::words(&error));
+    let shown = names::path(path.as_os_str());
+    let in_the_way = |error: io::Error| format!("{shown} is in the way: {}", files::words(&error));
     match fs::symlink_metadata(path) {
         Err(error) if error.kind() == ErrorKind::NotFound => return Ok(()),
         Err(error) => return Err(in_the_way(error)),
@@ -172,10 +179,13 @@ fn take_away_left(path: &Path) -> Result<(), String> {
         Err(error) => return Err(in_the_way(error)),
     };
     lock(&left)?;
-    if is_named(&left, path) {
-        fs::remove_file(path).map_err(in_the_way)?;
+    if !is_named(&left, path) {
+        return Ok(());
     }
-    Ok(())
+    match fs::remove_file(path) {
+        Err(error) if error.kind() != ErrorKind::NotFound => Err(in_the_way(error)),
+        _ => Ok(()),
+    }
 }
 
 /// Locks a file until it is closed.
