@@ -96,8 +96,7 @@ class Reading(Case):
         self.assertEqual(len(lines) - 3, len(v.entries))
         for line, placed in zip(lines[1:], v.entries):
             entry = placed.entry
-            self.assertEqual(line[at:].rstrip(' '),
-                             as_text(entry.name).rstrip(' '))
+            self.assertEqual(line[at:], as_text(entry.name))
             for column, date in zip(dates_at, (entry.created, entry.changed)):
                 self.assertEqual(line[column:column + 19], date_text(date))
             number, flag = line[:at].split()[:2]
@@ -147,8 +146,8 @@ class Reading(Case):
     def check_info(self, facts):
         text = self.done('info', self.image).decode()
         lines = dict(line.split(':', 1) for line in text.split('\n')[:-1])
+        self.assertEqual(lines['name'][14:], as_text(facts.name))
         lines = {label: value.strip(' ') for label, value in lines.items()}
-        self.assertEqual(lines['name'], as_text(facts.name).strip(' '))
         self.assertEqual(lines['created'], date_text(facts.created))
         self.assertEqual(lines['last backup'], date_text(facts.backup))
         self.assertEqual(lines['files'], str(facts.files))

@@ -58,13 +58,13 @@ pub fn table(facts: &Facts, entries: &[Entry]) -> String {
     }
     let mut text = String::new();
     for row in &rows {
-        let cells = row.iter().zip(widths).zip(COLUMNS);
-        let cells = cells.map(|((cell, width), (_, right))| match right {
-            true => format!("{cell:>width$}"),
-            false => format!("{cell:<width$}"),
-        });
-        text.push_str(cells.collect::<Vec<_>>().join("  ").trim_end_matches(' '));
-        text.push('\n');
+        for ((cell, width), (heading, right)) in row.iter().zip(widths).zip(COLUMNS) {
+            text.push_str(&match (heading, right) {
+                ("name", _) => format!("{cell}\n"),
+                (_, true) => format!("{cell:>width$}  "),
+                (_, false) => format!("{cell:<width$}  "),
+            });
+        }
     }
     text.push_str(&format!(
         "{}, free {}\n",
@@ -141,11 +141,9 @@ pub fn facts(facts: &Facts) -> String {
         ("free", free(facts)),
         ("clump size", facts.clump_size.to_string()),
     ];
-    let lines = lines.map(|(label, value)| {
-        format!("{:<19}{value}", format!("{label}:"))
-            .trim_end_matches(' ')
-            .to_string()
-            + "\n"
+    let lines = lines.map(|(label, value)| match value.as_str() {
+        "" => format!("{label}:\n"),
+        _ => format!("{:<18} {value}\n", format!("{label}:")),
     });
     lines.concat()
 }
