@@ -80,5 +80,6 @@ module _ {f : VolumeFacts} {image : List ℕ} (r : Readable f image) where
   added name finder made changed base end a whole x y z px py pz =
       let e = newEntry (nextNumber f) name finder made changed in
       let room : HasRoom image (512 * dirStart f .0) (a .left) (length e) base end = rw (new-length (nextNumber f) name finder made changed whole) (a .room) in
-      let put = room-placed f image dir-within dir-clean e (new-sound (nextNumber f) name finder made changed whole (a .some)) (a .left) base end (a .count) room in
+      let sound = new-sound (nextNumber f) name finder made changed whole (a .some) in
+      let put = room-placed f image dir-within dir-clean e sound (a .left) base end (a .count) room in
       pz ∙ ap (withFiles (f .files + 1)) (py ∙ ap (withNext (nextNumber f + 1)) (px ∙ sym put))

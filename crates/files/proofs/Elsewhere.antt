@@ -52,7 +52,8 @@ module _ {image name : List ℕ} {place : ℕ} {e : EntryAt} (acc : Accepted ima
   within : length (flat (h .lies .before)) + padded (51 + e .«name_length») ≤ 512
   within =
       let base0 = 512 * dirStart f .0 + 512 * h .lies .index in
-      let size = size-here image base0 e (own-block f image e (h .lies) name has differ clean (r .within)) (h .there .stands) (lies-block f image e (h .lies)) in
+      let own = own-block f image e (h .lies) name has differ clean (r .within) in
+      let size = size-here image base0 e own (h .there .stands) (lies-block f image e (h .lies)) in
       omega (arith, size, entry-within f image e (h .lies) name has differ clean)
 
   -- the same in base
