@@ -39,54 +39,62 @@ be16-at-requires c κs = within (c .before .before) _ tt
 be32-at-requires : tie.Need-be32-at-requires
 be32-at-requires c κs = within (c .before .before .before) _ tt
 
+-- where it started, from the date of creation
+abbrev start : tie.After-be32-at → tie.Start
+start c = c .before .before .before .before
+
 be32-at-requires-2 : tie.Need-be32-at-requires-2
-be32-at-requires-2 c κs = within (c .before .before .before .before) _ tt
+be32-at-requires-2 c κs = within (start c) _ tt
 
 be16-at-requires-2 : tie.Need-be16-at-requires-2
-be16-at-requires-2 c κs = within (c .before .before .before .before .before) _ tt
+be16-at-requires-2 c κs = within (start (c .before)) _ tt
 
 be16-at-requires-3 : tie.Need-be16-at-requires-3
-be16-at-requires-3 c κs = within (c .before .before .before .before .before .before) _ tt
+be16-at-requires-3 c κs = within (start (c .before .before)) _ tt
 
 be16-at-requires-4 : tie.Need-be16-at-requires-4
-be16-at-requires-4 c κs = within (c .before .before .before .before .before .before .before) _ tt
+be16-at-requires-4 c κs = within (start (c .before .before .before)) _ tt
 
 cast-t12 : tie.Need-cast-t12
 cast-t12 c = search needs
 
--- where it started, after half of the fields
-abbrev start : tie.After-be16-at4 → tie.Start
-start c = c .before .before .before .before .before .before .before .before
+-- that date, from the directory's start
+abbrev date : tie.After-be16-at4 → tie.After-be32-at
+date c = c .before .before .before .before
 
 be16-at-requires-5 : tie.Need-be16-at-requires-5
-be16-at-requires-5 c κs = within (start c) _ tt
+be16-at-requires-5 c κs = within (start (date c)) _ tt
 
 be16-at-requires-6 : tie.Need-be16-at-requires-6
-be16-at-requires-6 c κs = within (start (c .before)) _ tt
+be16-at-requires-6 c κs = within (start (date (c .before))) _ tt
 
 be32-at-requires-3 : tie.Need-be32-at-requires-3
-be32-at-requires-3 c κs = within (start (c .before .before)) _ tt
+be32-at-requires-3 c κs = within (start (date (c .before .before))) _ tt
 
 be32-at-requires-4 : tie.Need-be32-at-requires-4
-be32-at-requires-4 c κs = within (start (c .before .before .before)) _ tt
+be32-at-requires-4 c κs = within (start (date (c .before .before .before))) _ tt
+
+-- and the directory's start, from the clump size
+abbrev directory : tie.After-be32-at4 → tie.After-be16-at4
+directory c = c .before .before .before .before
 
 be16-at-requires-7 : tie.Need-be16-at-requires-7
-be16-at-requires-7 c κs = within (start (c .before .before .before .before)) _ tt
+be16-at-requires-7 c κs = within (start (date (directory c))) _ tt
 
 cast-t19 : tie.Need-cast-t19
 cast-t19 c = search needs
 
 be32-at-requires-5 : tie.Need-be32-at-requires-5
-be32-at-requires-5 c κs = within (start (c .before .before .before .before .before)) _ tt
+be32-at-requires-5 c κs = within (start (date (directory (c .before)))) _ tt
 
 be16-at-requires-8 : tie.Need-be16-at-requires-8
-be16-at-requires-8 c κs = within (start (c .before .before .before .before .before .before)) _ tt
+be16-at-requires-8 c κs = within (start (date (directory (c .before .before)))) _ tt
 
 shared-slice-read-t24 : tie.Need-shared-slice-read-t24
-shared-slice-read-t24 c = within (start (c .before .before .before .before .before .before .before .before)) _ tt
+shared-slice-read-t24 c = within (start (date (directory (c .before .before .before .before)))) _ tt
 
 name-at-requires : tie.Need-name-at-requires
-name-at-requires c κs = within (start (c .before .before .before .before .before .before .before .before)) _ tt
+name-at-requires c κs = within (start (date (directory (c .before .before .before .before)))) _ tt
 
 returns : tie.Need-returns
 unfolding factsOf
