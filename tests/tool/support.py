@@ -67,7 +67,7 @@ def shapes():
 
 
 def as_text(name):
-    """A name as the tool shows it, written anew from TOOL's own words."""
+    """A name as the tool shows it."""
     return ''.join(
         '\\\\' if b == 0x5C else
         '\\x%02X' % b if b < 0x20 or b in (0x7F, 0xCA, 0xF0) else

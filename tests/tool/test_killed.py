@@ -1,13 +1,14 @@
-"""A save that is killed at every system call in turn, and one in which every
-system call in turn fails.
+"""A save that is killed at every system call in turn, one in which every
+system call in turn fails, and an image that is replaced before it is locked.
 
-Both by strace's injection; without strace this part is not run.
+All by strace's injection; without strace this part is not run.
 """
 
 import os
 import re
 import shutil
 import subprocess
+import time
 import unittest
 
 from support import Case, Ran, SECONDS, TOOL, hall, volume, water
@@ -111,10 +112,6 @@ class Killed(Case):
         def fresh_hall():
             self.write(hall_image)
 
-        def fresh_water():
-            # a file of this name stands in for delete's second run
-            self.write(disk)
-
         def fresh_get():
             self.write(disk)
             self.write(b'old', 'out')
@@ -174,3 +171,42 @@ class Killed(Case):
                 self.assertEqual(extra, set(), ran)
         for error in ('EIO', 'ENOSPC', 'EACCES'):
             self.commands('error=' + error, check)
+
+    def test_replaced_before_it_is_locked(self):
+        """The tool has opened the image and not yet locked it when another
+        takes its place: it works on the other."""
+        self.write(hall.hall())
+        other = bytearray(hall.hall())
+        other[6000] = 1
+        self.write(other, 'other.img')
+        self.write(NEW, 'source')
+        log = os.path.join(self.logs, 'log')
+        with subprocess.Popen(
+                [STRACE, '-f', '-o', log, '-e',
+                 'inject=flock:delay_enter=2000000:when=1', TOOL, 'put',
+                 '--date=@7', '--as=WEEK1', 'disk.img', 'source'],
+                cwd=self.folder, stderr=subprocess.PIPE) as strace:
+            end = time.monotonic() + SECONDS
+            while not self.opened(strace.pid):
+                self.assertLess(time.monotonic(), end)
+                time.sleep(0.01)
+            os.rename(self.path('other.img'), self.image)
+            self.assertEqual((strace.wait(SECONDS), strace.stderr.read()),
+                             (0, b''))
+        self.assertEqual(self.read(), put(other))
+        self.only('disk.img', 'source')
+
+    def opened(self, watcher):
+        """Whether the program that strace watches has opened the image."""
+        with open('/proc/%d/task/%d/children' % (watcher, watcher)) as file:
+            children = file.read().split()
+        for child in children:
+            try:
+                folder = '/proc/%s/fd' % child
+                links = [os.readlink(os.path.join(folder, number))
+                         for number in os.listdir(folder)]
+            except OSError:
+                continue
+            if os.path.realpath(self.image) in links:
+                return True
+        return False

@@ -1,5 +1,6 @@
 """check, list, info, map and get against the second program."""
 
+import datetime
 import json
 import os
 import random
@@ -7,7 +8,6 @@ import time
 
 from support import (Case, as_text, hall, listing, maker, shapes, volume,
                      water)
-import datetime
 
 
 def date_text(number):

@@ -2,6 +2,7 @@
 //! file, makes the proved calls on the copy in memory, shows what they say, and saves.
 
 mod args;
+mod console;
 mod dates;
 mod failure;
 mod files;
@@ -10,17 +11,16 @@ mod listing;
 mod map;
 mod names;
 mod save;
-mod session;
 mod streams;
 mod verbs;
 
 use std::process::ExitCode;
 
 fn main() -> ExitCode {
-    let mut session = session::Session::new();
+    let mut console = console::Console::new();
     let words: Vec<_> = std::env::args_os().skip(1).collect();
-    if let Err(failure) = verbs::run(&words, &mut session) {
-        session.report(&failure);
+    if let Err(failure) = verbs::run(&words, &mut console) {
+        console.report(&failure);
     }
-    ExitCode::from(session.status())
+    ExitCode::from(console.status())
 }

@@ -7,12 +7,12 @@ use mfs::Volume;
 
 use super::{misused, name, refused, unfit};
 use crate::args::Arguments;
+use crate::console::Console;
 use crate::dates;
 use crate::failure::Failure;
 use crate::files;
 use crate::names;
 use crate::save::Target;
-use crate::session::Session;
 
 const NO_DATE: &str = "--date is missing: a disk keeps the dates of the desk's own clock, which nobody but you knows. \
                        Give 'YYYY-MM-DD HH:MM:SS', @N for the stored number, or now for this machine's local clock";
@@ -37,7 +37,7 @@ fn date(arguments: &Arguments) -> Result<u32, Failure> {
 }
 
 /// `put`: the file is created, or its fork is cut to nothing; then the bytes are written.
-pub fn put(arguments: &Arguments, _: &mut Session) -> Result<(), Failure> {
+pub fn put(arguments: &Arguments, _: &mut Console) -> Result<(), Failure> {
     let (path, file) = (arguments.operand(0), arguments.operand(1));
     let date = date(arguments)?;
     let name = name_for(arguments, file)?;
@@ -86,7 +86,7 @@ fn finder(arguments: &Arguments) -> Result<[u8; 16], Failure> {
 }
 
 /// `append`: bytes written at the fork's end.
-pub fn append(arguments: &Arguments, _: &mut Session) -> Result<(), Failure> {
+pub fn append(arguments: &Arguments, _: &mut Console) -> Result<(), Failure> {
     let (path, file) = (arguments.operand(0), arguments.operand(2));
     let date = date(arguments)?;
     let name = name(arguments.operand(1))?;
@@ -101,7 +101,7 @@ pub fn append(arguments: &Arguments, _: &mut Session) -> Result<(), Failure> {
 }
 
 /// `cut`: the fork's first bytes stay.
-pub fn cut(arguments: &Arguments, _: &mut Session) -> Result<(), Failure> {
+pub fn cut(arguments: &Arguments, _: &mut Console) -> Result<(), Failure> {
     let path = arguments.operand(0);
     let date = date(arguments)?;
     let name = name(arguments.operand(1))?;
@@ -125,7 +125,7 @@ fn length(given: &OsStr) -> Result<u64, Failure> {
 }
 
 /// `delete`: all files named, or none.
-pub fn delete(arguments: &Arguments, session: &mut Session) -> Result<(), Failure> {
+pub fn delete(arguments: &Arguments, console: &mut Console) -> Result<(), Failure> {
     let path = arguments.operand(0);
     let given = arguments.operands().get(1..).unwrap_or_default();
     let names: Result<Vec<_>, _> = given.iter().map(|given| name(given)).collect();
@@ -137,7 +137,7 @@ pub fn delete(arguments: &Arguments, session: &mut Session) -> Result<(), Failur
                 continue;
             };
             if let Err(earlier) = &last {
-                session.report(earlier);
+                console.report(earlier);
             }
             last = Err(Failure::Refused {
                 image: names::path(path),

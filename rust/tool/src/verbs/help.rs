@@ -3,9 +3,9 @@
 use std::ffi::OsString;
 
 use super::{unknown, Verb, VERBS};
+use crate::console::Console;
 use crate::failure::Failure;
 use crate::names;
-use crate::session::Session;
 
 const NOTES: &str = "\
 -r is the resource fork; without it the data fork.
@@ -17,12 +17,12 @@ Exit status: 0 done; 1 refused by a call; 2 could not be carried out.
 ";
 
 /// Shows all verbs, or one.
-pub fn help(words: &[OsString], session: &mut Session) -> Result<(), Failure> {
+pub fn help(words: &[OsString], console: &mut Console) -> Result<(), Failure> {
     match words {
-        [] => session.show(all()),
-        [name] if name == "help" => session.show("usage: mfs help [VERB]\n"),
+        [] => console.show(all()),
+        [name] if name == "help" => console.show("usage: mfs help [VERB]\n"),
         [name] => match VERBS.iter().find(|verb| name == verb.name) {
-            Some(verb) => session.show(one(verb)),
+            Some(verb) => console.show(one(verb)),
             None => Err(unknown(format!("there is no verb {}", names::path(name)))),
         },
         [_, surplus, ..] => Err(unknown(format!("help: {} is too much", names::path(surplus)))),

@@ -9,9 +9,9 @@ use std::ffi::{OsStr, OsString};
 use mfs::Refusal;
 
 use crate::args::Arguments;
+use crate::console::Console;
 use crate::failure::Failure;
 use crate::names;
-use crate::session::Session;
 
 /// A verb of the tool.
 struct Verb {
@@ -25,7 +25,7 @@ struct Verb {
     options: &'static [&'static str],
     fewest: usize,
     most: usize,
-    run: fn(&Arguments, &mut Session) -> Result<(), Failure>,
+    run: fn(&Arguments, &mut Console) -> Result<(), Failure>,
 }
 
 const ANY: usize = usize::MAX;
@@ -162,23 +162,23 @@ impl Verb {
 }
 
 /// Runs the command that these words are.
-pub fn run(words: &[OsString], session: &mut Session) -> Result<(), Failure> {
+pub fn run(words: &[OsString], console: &mut Console) -> Result<(), Failure> {
     let Some((name, rest)) = words.split_first() else {
         return Err(unknown("a verb is missing".to_string()));
     };
     if name == "help" || name == "--help" || name == "-h" {
-        return help::help(rest, session);
+        return help::help(rest, console);
     }
     let Some(verb) = VERBS.iter().find(|verb| name == verb.name) else {
         return Err(unknown(format!("there is no verb {}", names::path(name))));
     };
     if let [only] = rest {
         if only == "--help" || only == "-h" {
-            return help::help(std::slice::from_ref(name), session);
+            return help::help(std::slice::from_ref(name), console);
         }
     }
     let arguments = verb.arguments(rest)?;
-    (verb.run)(&arguments, session).map_err(|failure| match failure {
+    (verb.run)(&arguments, console).map_err(|failure| match failure {
         Failure::Usage { words, .. } => verb.misused(words),
         other => other,
     })

@@ -8,6 +8,7 @@ use mfs::{Refusal, Volume};
 
 use super::{misused, name, refused};
 use crate::args::Arguments;
+use crate::console::Console;
 use crate::failure::Failure;
 use crate::files;
 use crate::json::Json;
@@ -15,7 +16,6 @@ use crate::listing;
 use crate::map;
 use crate::names;
 use crate::save::Target;
-use crate::session::Session;
 
 /// What calls say of an image that is named by an argument.
 fn look<T>(path: &OsStr, calls: impl FnOnce(&[u8]) -> Result<T, Refusal>) -> Result<T, Failure> {
@@ -42,73 +42,73 @@ fn document<T>(path: &OsStr, seen: &Result<T, Failure>, members: impl Fn(&T) -> 
 }
 
 /// `check`: a line for each image.
-pub fn check(arguments: &Arguments, session: &mut Session) -> Result<(), Failure> {
+pub fn check(arguments: &Arguments, console: &mut Console) -> Result<(), Failure> {
     let json = arguments.has("--json");
     let mut documents = Vec::new();
     for path in arguments.operands() {
         let facts = look(path, Volume::check);
         if let Err(failure) = &facts {
-            session.report(failure);
+            console.report(failure);
         }
         if json {
             documents.push(document(path, &facts, |facts| {
                 vec![("volume", listing::facts_json(facts))]
             }));
         } else if let Ok(facts) = &facts {
-            session.show(format!("{}: {}\n", names::path(path), listing::sound(facts)))?;
+            console.show(format!("{}: {}\n", names::path(path), listing::sound(facts)))?;
         }
     }
     if json {
-        session.show(Json::Object(vec![("images", Json::List(documents))]).document())?;
+        console.show(Json::Object(vec![("images", Json::List(documents))]).document())?;
     }
     Ok(())
 }
 
 /// `list`: document 01's listing, the table for people, or JSON.
-pub fn list(arguments: &Arguments, session: &mut Session) -> Result<(), Failure> {
+pub fn list(arguments: &Arguments, console: &mut Console) -> Result<(), Failure> {
     if arguments.has("-l") && arguments.has("--json") {
         return Err(misused("-l and --json don't go together"));
     }
     let path = arguments.operand(0);
     let seen = look(path, |image| Ok((Volume::check(image)?, Volume::entries(image)?)));
     if let Err(failure) = &seen {
-        session.report(failure);
+        console.report(failure);
     }
     if arguments.has("--json") {
         let document = document(path, &seen, |(facts, entries)| {
             let files = entries.iter().map(listing::entry_json).collect();
             vec![("volume", listing::facts_json(facts)), ("files", Json::List(files))]
         });
-        return session.show(document.document());
+        return console.show(document.document());
     }
     match seen {
-        Ok((facts, entries)) if arguments.has("-l") => session.show(listing::table(&facts, &entries)),
-        Ok((facts, entries)) => session.show(listing::plain(&facts, &entries)),
-        Err(Failure::Refused { refusal, .. }) => session.show(format!("refused {}\n", refusal.number())),
+        Ok((facts, entries)) if arguments.has("-l") => console.show(listing::table(&facts, &entries)),
+        Ok((facts, entries)) => console.show(listing::plain(&facts, &entries)),
+        Err(Failure::Refused { refusal, .. }) => console.show(format!("refused {}\n", refusal.number())),
         Err(_) => Ok(()),
     }
 }
 
 /// `info`: the facts of the volume.
-pub fn info(arguments: &Arguments, session: &mut Session) -> Result<(), Failure> {
+pub fn info(arguments: &Arguments, console: &mut Console) -> Result<(), Failure> {
     let path = arguments.operand(0);
     let facts = look(path, Volume::check);
     if arguments.has("--json") {
         let document = document(path, &facts, |facts| vec![("volume", listing::facts_json(facts))]);
-        session.show(document.document())?;
+        console.show(document.document())?;
     } else if let Ok(facts) = &facts {
-        session.show(listing::facts(facts))?;
+        console.show(listing::facts(facts))?;
     }
     facts.map(|_| ())
 }
 
 /// `map`: the picture of the blocks.
-pub fn map(arguments: &Arguments, session: &mut Session) -> Result<(), Failure> {
-    session.show(look(arguments.operand(0), map::picture)?)
+pub fn map(arguments: &Arguments, console: &mut Console) -> Result<(), Failure> {
+    console.show(look(arguments.operand(0), map::picture)?)
 }
 
 /// `get`: a fork's bytes.
-pub fn get(arguments: &Arguments, session: &mut Session) -> Result<(), Failure> {
+pub fn get(arguments: &Arguments, console: &mut Console) -> Result<(), Failure> {
     let path = arguments.operand(0);
     let name = name(arguments.operand(1))?;
     let bytes = look(path, |image| Volume::read_all(image, &name, arguments.fork()))?;
@@ -117,7 +117,7 @@ pub fn get(arguments: &Arguments, session: &mut Session) -> Result<(), Failure> 
             let stored = store(file, path, &bytes);
             stored.map_err(|words| Failure::about(&names::path(file), words))
         }
-        _ => session.show(bytes),
+        _ => console.show(bytes),
     }
 }
 

@@ -1,4 +1,4 @@
-//! One run of the tool: what it has shown and reported so far.
+//! What a run of the tool shows and reports.
 
 use std::io::{self, Write};
 
@@ -6,15 +6,15 @@ use crate::failure::Failure;
 use crate::files;
 use crate::streams;
 
-/// The run's exit status so far.
-pub struct Session {
+/// Standard output and standard error, and the exit status so far.
+pub struct Console {
     status: u8,
 }
 
-impl Session {
-    /// A run in which nothing has failed yet.
-    pub fn new() -> Session {
-        Session { status: 0 }
+impl Console {
+    /// For a run in which nothing has failed yet.
+    pub fn new() -> Console {
+        Console { status: 0 }
     }
 
     /// The exit status: the largest of all failures', 0 without one.
@@ -22,7 +22,7 @@ impl Session {
         self.status
     }
 
-    /// Tells of a failure on standard error; a later one does not take its status back.
+    /// Tells of a failure on standard error.
     pub fn report(&mut self, failure: &Failure) {
         self.status = self.status.max(failure.status());
         // where standard error can't be written either, the exit status has to do
