@@ -83,7 +83,7 @@ module _ {f : VolumeFacts} {image : List ℕ} (r : Readable f image) where
           record {
             title = good;
             there = rw first-rest at (rw p at h);
-            lies = (rw p at l) (512 * dirStart f .0′ .0) (dirLength f′) (begins-comes image (dirStart f .0′ .0) (dirLength f′) c begins);
+            lies = (rw p at l) (512 * dirStart f′ .0) (dirLength f′) (begins-comes image (dirStart f′ .0) (dirLength f′) c begins);
           }
 
       pub found-none : s ≡ found.Nothing → Missed image name 13
