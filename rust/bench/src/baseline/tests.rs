@@ -1,0 +1,224 @@
+//! Document 01's worked disk and its cases P1 to P12, and what the cases leave out.
+
+use super::map::decode_map;
+use super::*;
+use crate::images;
+
+const DIRECTORY: usize = 4 * 512;
+const DATE: u32 = 2_600_000_000;
+
+fn map_bytes(image: &[u8]) -> &[u8] {
+    &image[MAP..MAP + 8]
+}
+
+fn free(image: &[u8]) -> u16 {
+    check(image).expect("an accepted volume").free_blocks
+}
+
+fn chain_of(image: &[u8], name: &[u8]) -> Vec<u16> {
+    (0..)
+        .map_while(|place| block(image, name, Fork::Data, place).ok())
+        .collect()
+}
+
+/// The change refused, with nothing changed.
+fn refused(change: impl Fn(&mut [u8]) -> Result<(), Refusal>) -> u8 {
+    let before = images::hall();
+    let mut image = before.clone();
+    let refusal = change(&mut image).expect_err("a refusal");
+    assert_eq!(image, before);
+    refusal.number()
+}
+
+#[test]
+fn hall_is_listed() {
+    let image = images::hall();
+    let facts = check(&image).unwrap();
+    assert_eq!(&facts.name[..4], b"HALL");
+    assert_eq!((facts.files, facts.free_blocks, facts.allocation_blocks), (2, 2, 5));
+    let week = entry(&image, 0).unwrap();
+    assert_eq!((week.number, week.name), (1, &b"WEEK1"[..]));
+    assert_eq!((week.data.logical, week.resource.logical), (700, 0));
+    assert_eq!((week.created, week.changed), (2_500_000_000, 2_500_600_000));
+    let rates = entry(&image, 1).unwrap();
+    assert_eq!((rates.number, rates.name), (2, &b"RATES"[..]));
+    assert_eq!((rates.data.logical, rates.resource.logical), (512, 0));
+    assert_eq!((rates.created, rates.changed), (2_500_000_000, 2_500_000_000));
+    assert_eq!(entry(&image, 2), Err(Refusal::NoSuchFile));
+    assert_eq!(entry(&image, u64::MAX), Err(Refusal::NoSuchFile));
+}
+
+#[test]
+fn p1_pairs_of_map_entries() {
+    let mut image = vec![0; 2048];
+    image[MAP..MAP + 3].copy_from_slice(&[0xAB, 0xCD, 0xEF]);
+    assert_eq!(decode_map(&image, 2), Err(Refusal::MapEntry));
+    image[MAP..MAP + 3].copy_from_slice(&[0x00, 0x30, 0x02]);
+    assert_eq!(&decode_map(&image, 2).unwrap()[2..4], &[3, 2]);
+    put_map_entry(&mut image, 2, 0xABC);
+    assert_eq!(&image[MAP..MAP + 3], &[0xAB, 0xC0, 0x02]);
+    put_map_entry(&mut image, 3, 0xDEF);
+    assert_eq!(&image[MAP..MAP + 3], &[0xAB, 0xCD, 0xEF]);
+}
+
+#[test]
+fn p2_map_of_hall() {
+    assert_eq!(
+        map_bytes(&images::hall()),
+        [0x00, 0x40, 0x01, 0x00, 0x10, 0x00, 0x00, 0x00]
+    );
+}
+
+#[test]
+fn p3_write_takes_the_lowest_free_block() {
+    let mut image = images::hall();
+    let bytes: Vec<u8> = (0..400).map(|i| i as u8).collect();
+    write(&mut image, b"WEEK1", Fork::Data, 700, &bytes, DATE).unwrap();
+    assert_eq!(&map_bytes(&image)[..6], [0x00, 0x40, 0x01, 0x00, 0x50, 0x01]);
+    assert_eq!(free(&image), 1);
+    assert_eq!(chain_of(&image, b"WEEK1"), [2, 4, 5]);
+    let (_, week) = find(&image, b"WEEK1").unwrap();
+    assert_eq!((week.data.logical, week.data.physical), (1100, 1536));
+    assert_eq!(week.changed, DATE);
+    let mut buffer = [9; 500];
+    assert_eq!(read(&image, b"week1", Fork::Data, 700, &mut buffer), Ok(400));
+    assert_eq!(&buffer[..400], &bytes[..]);
+    assert_eq!(&buffer[400..], &[9; 100]);
+}
+
+#[test]
+fn p4_write_takes_all() {
+    let mut image = images::hall();
+    write(&mut image, b"WEEK1", Fork::Data, 700, &[1; 1348], DATE).unwrap();
+    assert_eq!(chain_of(&image, b"WEEK1"), [2, 4, 5, 6]);
+    assert_eq!(free(&image), 0);
+}
+
+#[test]
+fn p5_write_beyond_the_free_blocks() {
+    assert_eq!(
+        refused(|image| write(image, b"WEEK1", Fork::Data, 700, &[1; 1349], DATE)),
+        17
+    );
+}
+
+#[test]
+fn p6_write_of_nothing() {
+    let mut image = images::hall();
+    write(&mut image, b"WEEK1", Fork::Data, 700, &[], DATE).unwrap();
+    let mut dated = images::hall();
+    put_u32(&mut dated, DIRECTORY + entry_at::CHANGED, DATE);
+    assert_eq!(image, dated);
+    assert_eq!(refused(|image| write(image, b"WEEK1", Fork::Data, 701, &[], DATE)), 16);
+}
+
+#[test]
+fn p7_and_p8_cuts() {
+    let mut image = images::hall();
+    cut(&mut image, b"WEEK1", Fork::Data, 513, DATE).unwrap();
+    assert_eq!(chain_of(&image, b"WEEK1"), [2, 4]);
+    assert_eq!(free(&image), 2);
+    let mut image = images::hall();
+    cut(&mut image, b"WEEK1", Fork::Data, 512, DATE).unwrap();
+    assert_eq!(&map_bytes(&image)[..6], [0x00, 0x10, 0x01, 0x00, 0x00, 0x00]);
+    assert_eq!(free(&image), 3);
+    cut(&mut image, b"WEEK1", Fork::Data, 0, DATE).unwrap();
+    let (_, week) = find(&image, b"WEEK1").unwrap();
+    assert_eq!(
+        week.data,
+        ForkFacts {
+            start: 0,
+            logical: 0,
+            physical: 0
+        }
+    );
+    assert_eq!(refused(|image| cut(image, b"WEEK1", Fork::Data, 701, DATE)), 16);
+}
+
+#[test]
+fn p9_delete() {
+    let mut image = images::hall();
+    delete(&mut image, b"RATES").unwrap();
+    assert_eq!(&map_bytes(&image)[..6], [0x00, 0x40, 0x00, 0x00, 0x10, 0x00]);
+    assert!(image[DIRECTORY + 56..DIRECTORY + 512].iter().all(|&b| b == 0));
+    assert_eq!(check(&image).unwrap().files, 1);
+    assert_eq!(free(&image), 3);
+    let mut image = images::hall();
+    let rates = image[DIRECTORY + 56..DIRECTORY + 112].to_vec();
+    delete(&mut image, b"WEEK1").unwrap();
+    assert_eq!(&image[DIRECTORY..DIRECTORY + 56], &rates[..]);
+    assert!(image[DIRECTORY + 56..DIRECTORY + 512].iter().all(|&b| b == 0));
+}
+
+#[test]
+fn p10_names_without_case() {
+    let image = images::hall();
+    assert_eq!(find(&image, b"week1").unwrap().0, 0);
+    assert_eq!(refused(|image| create(image, b"week1", &[0; 16], 1, 2)), 14);
+    assert_eq!(find(&image, b""), Err(Refusal::NameLength));
+    assert_eq!(find(&image, &[b'x'; 256]), Err(Refusal::NameLength));
+    assert_eq!(find(&image, &[b'x'; 255]), Err(Refusal::NoSuchFile));
+}
+
+#[test]
+fn p11_and_p12_refused_volumes() {
+    let mut image = images::hall();
+    put_u16(&mut image, volume_at::FREE_BLOCKS, 3);
+    assert_eq!(check(&image), Err(Refusal::FreeCount));
+    let mut image = images::hall();
+    put_map_entry(&mut image, 4, 2);
+    assert_eq!(check(&image), Err(Refusal::Fork));
+}
+
+#[test]
+fn create_stores_an_entry() {
+    let mut image = images::hall();
+    image[DIRECTORY + 112..DIRECTORY + 512].fill(0x7F);
+    create(&mut image, b"Tariff", &[5; 16], 8, 9).unwrap();
+    let (place, entry) = find(&image, b"TARIFF").unwrap();
+    assert_eq!(place, 2);
+    assert_eq!((entry.flags, entry.version, entry.number), (0x80, 0, 3));
+    assert_eq!((entry.finder, entry.created, entry.changed), ([5; 16], 8, 9));
+    assert!(image[DIRECTORY + 112 + 57..DIRECTORY + 512].iter().all(|&b| b == 0));
+    let facts = check(&image).unwrap();
+    assert_eq!((facts.files, facts.next_number), (3, 4));
+    assert_eq!(
+        create(&mut image, &[b'n'; 255], &[0; 16], 1, 1),
+        Ok(()),
+        "342 bytes are left"
+    );
+    assert_eq!(create(&mut image, b"NO", &[0; 16], 1, 1), Err(Refusal::DirectoryFull));
+}
+
+#[test]
+fn locks_and_used_up_numbers() {
+    for attributes in [0x0080, 0x8000] {
+        let mut image = images::hall();
+        put_u16(&mut image, volume_at::ATTRIBUTES, attributes);
+        assert_eq!(delete(&mut image, b""), Err(Refusal::VolumeLocked));
+    }
+    let mut image = images::hall();
+    image[DIRECTORY] |= 1;
+    assert_eq!(delete(&mut image, b"WEEK1"), Err(Refusal::FileLocked));
+    let mut image = images::hall();
+    put_u32(&mut image, volume_at::NEXT_NUMBER, u32::MAX);
+    assert_eq!(
+        create(&mut image, &[b'n'; 255], &[0; 16], 1, 1),
+        Err(Refusal::NumbersUsedUp)
+    );
+}
+
+#[test]
+fn blocks_that_reach_the_backup() {
+    let mut image = images::one_fork();
+    assert_eq!(check(&image).map(|facts| facts.allocation_blocks), Ok(391));
+    put_u16(&mut image, volume_at::ALLOCATION_BLOCKS, 392);
+    assert_eq!(check(&image), Err(Refusal::Limits));
+}
+
+#[test]
+fn each_shape_is_accepted() {
+    for (name, image) in images::shapes().into_iter().chain(images::crowded()) {
+        assert!(check(&image).is_ok(), "{name}");
+    }
+}

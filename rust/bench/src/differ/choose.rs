@@ -1,0 +1,197 @@
+//! A call of a kind for an image, its arguments about the edges.
+
+use crate::baseline::{self, Entry, Facts, ForkFacts};
+use crate::call::{Bytes, Call};
+use crate::images::get2;
+use crate::random::Random;
+use crate::volumes;
+
+/// The most bytes that are read or written.
+const MOST: usize = 1 << 22;
+
+/// A name, a fork of it, and what the image tells of both; zero where it is refused or has no such file.
+struct Target {
+    name: Bytes,
+    fork: u8,
+    logical: usize,
+    physical: usize,
+    block_size: usize,
+    free_blocks: usize,
+}
+
+/// A call of this kind.
+pub fn call(random: &mut Random, image: &[u8], kind: usize) -> Call {
+    let target = target(random, image);
+    let logical = target.logical as u64;
+    match kind {
+        0 => Call::Check,
+        1 => Call::Entry(about(random, files(image))),
+        2 => Call::Find(target.name),
+        3 => {
+            let blocks = target.physical / target.block_size;
+            Call::Block(target.name, target.fork, about(random, blocks as u64))
+        }
+        4 => {
+            let length = read_length(random, target.logical);
+            Call::Read(target.name, target.fork, about(random, logical), length)
+        }
+        5 => create(random, target.name),
+        6 => write(random, target),
+        7 => {
+            let size = target.block_size as u64;
+            let near = if random.once_in(3) {
+                logical / size * size
+            } else {
+                logical
+            };
+            Call::Cut(target.name, target.fork, about(random, near), random.next() as u32)
+        }
+        _ => Call::Delete(target.name),
+    }
+}
+
+fn target(random: &mut Random, image: &[u8]) -> Target {
+    // 0 is the data fork, and every number but 0 the resource fork.
+    let fork = match random.below(12) {
+        0..=7 => 0,
+        8..=10 => 1,
+        _ => random.between(2, 255) as u8,
+    };
+    let mut name = name(random, image);
+    let mut facts = fork_facts(image, &name, fork);
+    if facts.physical == 0 {
+        name = self::name(random, image);
+        facts = fork_facts(image, &name, fork);
+    }
+    let (block_size, free_blocks) = match baseline::check(image) {
+        Ok(Facts {
+            block_size,
+            free_blocks,
+            ..
+        }) => (block_size as usize, usize::from(free_blocks)),
+        Err(_) => (512, 1),
+    };
+    Target {
+        name: Bytes(name),
+        fork,
+        logical: facts.logical as usize,
+        physical: facts.physical as usize,
+        block_size,
+        free_blocks,
+    }
+}
+
+/// The name of a file, in any case; or one like it; or any bytes.
+fn name(random: &mut Random, image: &[u8]) -> Vec<u8> {
+    let entries = if image.len() < 4096 {
+        Vec::new()
+    } else {
+        volumes::entries(image)
+    };
+    if entries.is_empty() || random.once_in(8) {
+        let length = match random.below(8) {
+            0 => 0,
+            1 => 255,
+            2 => 256,
+            3 => 300,
+            _ => random.index(20),
+        };
+        return bytes(random, length);
+    }
+    let mut name = volumes::name_at(image, entries[random.index(entries.len())]).to_vec();
+    volumes::other_case(random, &mut name);
+    match random.below(16) {
+        0 => name.push(random.byte()),
+        1 => {
+            name.pop();
+        }
+        2 if !name.is_empty() => {
+            let at = random.index(name.len());
+            name[at] ^= 1 << random.below(8);
+        }
+        _ => {}
+    }
+    name
+}
+
+fn bytes(random: &mut Random, length: usize) -> Vec<u8> {
+    let mut bytes = vec![0; length];
+    random.fill(&mut bytes);
+    bytes
+}
+
+fn fork_facts(image: &[u8], name: &[u8], fork: u8) -> ForkFacts {
+    match baseline::find(image, name) {
+        Ok((_, Entry { data, .. })) if fork == 0 => data,
+        Ok((_, Entry { resource, .. })) => resource,
+        Err(_) => ForkFacts {
+            start: 0,
+            logical: 0,
+            physical: 0,
+        },
+    }
+}
+
+fn files(image: &[u8]) -> u64 {
+    if image.len() < 4096 {
+        0
+    } else {
+        u64::from(get2(image, 1036))
+    }
+}
+
+/// A place or an offset: about `near`, or an edge of the whole range.
+fn about(random: &mut Random, near: u64) -> u64 {
+    match random.below(12) {
+        0 => near.saturating_add(1),
+        1 | 2 => near,
+        3 => near.saturating_sub(1),
+        4 => 0,
+        5 => [u64::MAX, 1 << 63, (1 << 32) + near, 1 << 32, (1 << 16) + near][random.index(5)],
+        _ => random.below(near + 1),
+    }
+}
+
+fn read_length(random: &mut Random, logical: usize) -> usize {
+    let length = match random.below(6) {
+        0 => 0,
+        1 => random.index(8),
+        2 => logical + random.index(3),
+        _ => random.index(logical + 600),
+    };
+    length.min(MOST)
+}
+
+/// A name that may exist, or a new one.
+fn create(random: &mut Random, name: Bytes) -> Call {
+    let name = if random.once_in(2) {
+        name
+    } else {
+        let longest = if random.once_in(4) { 255 } else { 12 };
+        let length = 1 + random.index(longest);
+        Bytes(bytes(random, length))
+    };
+    let mut finder = [0; 16];
+    random.fill(&mut finder);
+    Call::Create(name, finder, random.next() as u32, random.next() as u32)
+}
+
+/// A write within the fork, to its end or a block's end, or about what fills the volume.
+fn write(random: &mut Random, target: Target) -> Call {
+    let offset = about(random, target.logical as u64);
+    let (from, size) = (offset.min(1 << 30) as usize, target.block_size);
+    let end = target.physical.saturating_sub(from);
+    let whole = (target.physical + target.free_blocks * size).saturating_sub(from);
+    let length = match random.below(10) {
+        0 => 0,
+        1 => end,
+        2 => end + 1,
+        3 => whole,
+        4 => whole + 1,
+        5 => random.index(whole + 1),
+        6 => size - from % size,
+        _ => random.index(2 * size),
+    };
+    let written = Bytes(bytes(random, length.min(MOST)));
+    Call::Write(target.name, target.fork, offset, written, random.next() as u32)
+}

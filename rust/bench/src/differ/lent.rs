@@ -1,0 +1,42 @@
+//! Bytes lent to the archive, at any alignment, with guards before and behind.
+
+const GUARD: usize = 64;
+const GUARD_BYTE: u8 = 0xC3;
+
+pub struct Lent {
+    memory: Vec<u8>,
+    start: usize,
+    length: usize,
+}
+
+impl Lent {
+    pub fn new(bytes: &[u8], shift: usize) -> Lent {
+        let start = GUARD + shift;
+        let length = bytes.len();
+        let mut memory = vec![GUARD_BYTE; start + length + GUARD];
+        memory[start..start + length].copy_from_slice(bytes);
+        Lent { memory, start, length }
+    }
+
+    pub fn bytes(&self) -> &[u8] {
+        &self.memory[self.start..self.start + self.length]
+    }
+
+    pub fn bytes_mut(&mut self) -> &mut [u8] {
+        &mut self.memory[self.start..self.start + self.length]
+    }
+
+    pub fn guards_stand(&self) -> bool {
+        let behind = self.start + self.length;
+        let guards = self.memory[..self.start].iter().chain(&self.memory[behind..]);
+        guards.copied().all(|byte| byte == GUARD_BYTE)
+    }
+}
+
+#[cfg(test)]
+impl Lent {
+    /// Writes a byte behind the bytes.
+    pub fn overrun(&mut self) {
+        self.memory[self.start + self.length] = 0;
+    }
+}

@@ -1,0 +1,181 @@
+//! The calls whose instructions and stack are measured, made by the archive or by the baseline.
+
+use crate::baseline::{self, Fork, Refusal};
+use crate::call::{Bytes, Call};
+use crate::images::{self, get2, get4};
+use crate::{foreign, stack};
+use std::hint::black_box;
+
+#[derive(Clone, Copy)]
+enum Side {
+    Archive,
+    Baseline,
+}
+
+/// A call on an image.
+struct Measured {
+    name: &'static str,
+    image: Vec<u8>,
+    call: Call,
+}
+
+/// A call with an image and a buffer of its own.
+struct Prepared<'a> {
+    call: &'a Call,
+    image: Vec<u8>,
+    buffer: Vec<u8>,
+}
+
+impl Measured {
+    fn new(name: &'static str, image: &[u8], call: Call) -> Measured {
+        let image = image.to_vec();
+        Measured { name, image, call }
+    }
+
+    fn prepare(&self) -> Prepared<'_> {
+        Prepared {
+            call: &self.call,
+            image: self.image.clone(),
+            buffer: vec![0x5A; self.call.buffer_length()],
+        }
+    }
+}
+
+impl Prepared<'_> {
+    /// Makes the call and gives its number.
+    fn run(&mut self, side: Side) -> u8 {
+        match side {
+            Side::Archive => self.run_archive(),
+            Side::Baseline => self.run_baseline(),
+        }
+    }
+
+    fn run_archive(&mut self) -> u8 {
+        let (image, buffer) = (&mut self.image, &mut self.buffer);
+        match self.call {
+            Call::Check => black_box(foreign::check(image)).number,
+            Call::Entry(place) => black_box(foreign::entry(image, *place)).number,
+            Call::Find(name) => black_box(foreign::find(image, name)).number,
+            Call::Block(name, fork, place) => black_box(foreign::block(image, name, *fork, *place)).number,
+            Call::Read(name, fork, offset, _) => black_box(foreign::read(image, name, *fork, *offset, buffer)).number,
+            Call::Create(name, finder, created, changed) => foreign::create(image, name, finder, *created, *changed),
+            Call::Write(name, fork, offset, bytes, changed) => {
+                foreign::write(image, name, *fork, *offset, bytes, *changed)
+            }
+            Call::Cut(name, fork, size, changed) => foreign::cut(image, name, *fork, *size, *changed),
+            Call::Delete(name) => foreign::delete(image, name),
+        }
+    }
+
+    fn run_baseline(&mut self) -> u8 {
+        let (image, buffer) = (&mut self.image, &mut self.buffer);
+        match self.call {
+            Call::Check => number(baseline::check(image)),
+            Call::Entry(place) => number(baseline::entry(image, *place)),
+            Call::Find(name) => number(baseline::find(image, name)),
+            Call::Block(name, fork, place) => number(baseline::block(image, name, Fork::of(*fork), *place)),
+            Call::Read(name, fork, offset, _) => number(baseline::read(image, name, Fork::of(*fork), *offset, buffer)),
+            Call::Create(name, finder, created, changed) => {
+                number(baseline::create(image, name, finder, *created, *changed))
+            }
+            Call::Write(name, fork, offset, bytes, changed) => {
+                number(baseline::write(image, name, Fork::of(*fork), *offset, bytes, *changed))
+            }
+            Call::Cut(name, fork, size, changed) => {
+                number(baseline::cut(image, name, Fork::of(*fork), *size, *changed))
+            }
+            Call::Delete(name) => number(baseline::delete(image, name)),
+        }
+    }
+}
+
+fn number<T>(result: Result<T, Refusal>) -> u8 {
+    match result {
+        Ok(value) => {
+            black_box(&value);
+            0
+        }
+        Err(refusal) => refusal.number(),
+    }
+}
+
+/// The calls on an accepted volume, all on its last file: the whole data fork is read, written over, written anew after
+/// a cut to 0, and cut to half. Create has an image without that file.
+fn calls_on(image: &[u8]) -> Vec<Measured> {
+    let files = u64::from(get2(image, 1036));
+    let last = baseline::entry(image, files - 1).expect("an accepted volume with a file");
+    let name = Bytes(last.name.to_vec());
+    let (logical, blocks) = (last.data.logical, last.data.physical / get4(image, 1044));
+    let bytes = Bytes(vec![0x5A; logical as usize]);
+    let mut without_last = image.to_vec();
+    baseline::delete(&mut without_last, &name).expect("the last file is there");
+    let mut emptied = image.to_vec();
+    baseline::cut(&mut emptied, &name, Fork::Data, 0, 0).expect("the last file is there");
+    let (named, half, last_block) = (|| name.clone(), u64::from(logical / 2), u64::from(blocks) - 1);
+    let write = Call::Write(named(), 0, 0, bytes, 3);
+    vec![
+        Measured::new("check", image, Call::Check),
+        Measured::new("entry", image, Call::Entry(files - 1)),
+        Measured::new("find", image, Call::Find(named())),
+        Measured::new("block", image, Call::Block(named(), 0, last_block)),
+        Measured::new("read", image, Call::Read(named(), 0, 0, logical as usize)),
+        Measured::new(
+            "create",
+            &without_last,
+            Call::Create(Bytes(b"NEW 1".to_vec()), [7; 16], 1, 2),
+        ),
+        Measured::new("write", image, write.clone()),
+        Measured::new("write new", &emptied, write),
+        Measured::new("cut", image, Call::Cut(named(), 0, half, 3)),
+        Measured::new("delete", image, Call::Delete(named())),
+    ]
+}
+
+/// Every volume with the calls that are measured on it: all nine on the plain ones, the check on the crowded ones.
+fn all() -> Vec<(&'static str, Vec<Measured>)> {
+    let plain = images::shapes()
+        .into_iter()
+        .map(|(name, image)| (name, calls_on(&image)));
+    let crowded = images::crowded()
+        .into_iter()
+        .map(|(name, image)| (name, vec![Measured::new("check", &image, Call::Check)]));
+    plain.chain(crowded).collect()
+}
+
+/// Where callgrind counts: it is told the function's name, and sees that it ends since the call is not its last step.
+#[inline(never)]
+fn mfs_measured(call: &mut dyn FnMut()) {
+    call();
+    black_box(());
+}
+
+/// Makes each call where callgrind counts, by the archive and then by the baseline, and prints a line for each with its
+/// number. It was made once before, so that nothing is done for the first time.
+pub fn count() {
+    for (volume, calls) in all() {
+        for measured in calls {
+            for (side, word) in [(Side::Archive, "archive"), (Side::Baseline, "baseline")] {
+                measured.prepare().run(side);
+                let mut prepared = measured.prepare();
+                let mut number = 0;
+                mfs_measured(&mut || number = prepared.run(side));
+                println!("{volume}|{}|{word}|{number}", measured.name);
+            }
+        }
+    }
+}
+
+/// Prints for each call the bytes of stack that the archive takes, and the baseline.
+pub fn stacks() {
+    for (volume, calls) in all() {
+        for measured in calls {
+            let taken = [Side::Archive, Side::Baseline].map(|side| {
+                let mut prepared = measured.prepare();
+                stack::taken(&mut || {
+                    prepared.run(side);
+                })
+            });
+            println!("{volume}|{}|{}|{}", measured.name, taken[0], taken[1]);
+        }
+    }
+}
