@@ -59,10 +59,10 @@ module _ (e : ℕ → ℕ) (n a : ℕ) (t : List ℕ) (g : ForkFacts) where
 
   -- a start and lengths that fit: what is left is the walk
   pub claims-walk : (g .start .0 ≡ 0 → ⊥) → (g .physical ≡ 0 → ⊥) → g .physical % a ≡ 0 → g .logical ≤ g .physical
-      → walks e n t (g .physical / a) (g .start .0) ≡ claims e n a t g
-  unfolding claims goodFork fullFork forkBlocks blockCount
-  claims-walk z p m l =
-      rw (ne-eqb (g .start .0) 0 z, lt-ltb 0 (g .physical) (omega arith), eq-eqb (g .physical % a) 0 m, le-leb (g .logical) (g .physical) l)
+      → (k : ℕ) → k ≡ blockCount a g → walks e n t k (g .start .0) ≡ claims e n a t g
+  unfolding claims goodFork fullFork forkBlocks
+  claims-walk z p m l k q =
+      rw (q, ne-eqb (g .start .0) 0 z, lt-ltb 0 (g .physical) (omega arith), eq-eqb (g .physical % a) 0 m, le-leb (g .logical) (g .physical) l)
 
 -- ---- all forks, one after the other
 

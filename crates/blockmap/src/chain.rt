@@ -11,6 +11,7 @@ ghost use Rattle.blockmap.specs.Places.{HasPlace, IsPlace};
 use crate::packed::load;
 use model::AllocationBlock;
 use model::ForkFacts;
+use model::block_count;
 
 // Whether a chain of exactly k blocks runs from s, none of which is marked. Where it does, each of its blocks is marked.
 // s is a map value, or a fork's start as stored, and may be no block's number (0, 1 or bad): so it is a plain number.
@@ -63,7 +64,7 @@ pub fn claim_fork(entries: &[u16; 642], n: u16, a: u32, g: ForkFacts, marks: &mu
     if physical < logical {
         return false;
     }
-    let k = physical / a;
+    let k = block_count(g, a);
     if (n as u32) < k {
         return false;
     }

@@ -4,12 +4,12 @@ ghost use Rattle.files.specs.Leaves.{Shortened};
 ghost use Rattle.files.specs.Lookup.{ForkAt};
 use directory::EntryAt;
 use entries::put_free;
-use forks::block_count;
 use forks::fewest_blocks;
 use model::AllocationBlock;
 use model::Fork;
 use model::ForkFacts;
 use model::VolumeFacts;
+use model::block_count;
 
 // Frees the blocks of the fork g that its first bytes, as many as the size says, don't need, then stores the fork's fields and the
 // free count.

@@ -5,9 +5,9 @@ use directory::Cursor;
 use directory::EntryAt;
 use entries::put_files;
 use entries::put_free;
-use forks::block_count;
 use model::Fork;
 use model::VolumeFacts;
+use model::block_count;
 
 // Frees both forks' blocks, takes the entry out of its directory block and lowers the number of files.
 pub fn take_file(image: &mut [u8], f: VolumeFacts, e: EntryAt)

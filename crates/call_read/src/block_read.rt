@@ -6,11 +6,11 @@ use files::BlockAnswer;
 use files::Named;
 use files::ReadAnswer;
 use files::lookup;
-use forks::block_count;
 use forks::copy_fork;
 use model::AllocationBlock;
 use model::Fork;
 use model::VolumeFacts;
+use model::block_count;
 
 pub fn serve_block(image: &[u8], f: VolumeFacts, name: &[u8], fork: Fork, place: u64) -> BlockAnswer
     requires { ⌜ Readable f (now image) ⌝ }

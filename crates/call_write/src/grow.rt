@@ -8,13 +8,13 @@ ghost use Rattle.files.specs.Leaves.{Written};
 ghost use Rattle.files.specs.Lookup.{ForkAt};
 use directory::EntryAt;
 use entries::put_free;
-use forks::block_count;
 use forks::fill_fork;
 use forks::larger;
 use model::AllocationBlock;
 use model::Fork;
 use model::ForkFacts;
 use model::VolumeFacts;
+use model::block_count;
 
 // Joins the new blocks that the fork g needs, stores the bytes from the offset on, then the fork's fields and the free count.
 pub fn grow_fork(

@@ -1,12 +1,12 @@
-// The blocks that a fork has, and those that it needs. No sum wraps, whatever is asked.
+// The blocks that a fork needs. No sum wraps, whatever is asked.
 ghost use mathlib.Core.Path.{_≡_};
 ghost use Prim.Native.Nat.{_+_, _≤_, max};
-ghost use Rattle.model.specs.Directory.{blockCount};
 ghost use Rattle.model.specs.Calls.{fewest};
 ghost use Rattle.forks.specs.Growth.{Grows};
 use crate::NewBlocks;
 use model::ForkFacts;
 use model::VolumeFacts;
+use model::block_count;
 
 // So many bytes fit on no volume. Of fewer, no sum wraps.
 const TOO_MANY: usize = 0x4000_0000_0000_0000;
@@ -18,14 +18,6 @@ pub fn larger(a: usize, b: usize) -> usize
         return b;
     }
     a
-}
-
-// A fork's block count.
-pub fn block_count(g: ForkFacts, a: u32) -> u32
-    requires { ⌜ 512 ≤ a ⌝ }
-    ensures { λ r. ⌜ r ≡ blockCount a g ⌝ }
-{
-    g.physical / a
 }
 
 fn blocks_for(n: usize, a: usize) -> usize

@@ -1,10 +1,9 @@
-// The bytes of a fork, block by block, the blocks that a fork has, and those that it needs.
+// The bytes of a fork, block by block, and the blocks that it needs.
 mod content;
 mod growth;
 
 pub use content::copy_fork;
 pub use content::fill_fork;
-pub use growth::block_count;
 pub use growth::fewest_blocks;
 pub use growth::larger;
 pub use growth::new_blocks;

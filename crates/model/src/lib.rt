@@ -1,14 +1,16 @@
 // What document 01 says: its definitions, in specs/, with the types that they share with the code; bytes copied, numbers and
-// volume facts read from bytes; and the statements that the definitions are held to.
+// volume facts read from bytes, a fork's block count; and the statements that the definitions are held to.
 ghost use Rattle.model.specs.Cases.{FurtherCases, PCases};
 ghost use Rattle.model.specs.Check.{VerdictIsAccepted};
 
 mod block_numbers;
 mod copying;
+mod fork_facts;
 mod numbers;
 mod volume_facts;
 
 pub use copying::copy_part;
+pub use fork_facts::block_count;
 pub use numbers::be16_at;
 pub use numbers::be32_at;
 

@@ -1,9 +1,9 @@
 -- `block_count` meets its contract. Assumes nothing.
 use mathlib.Core.Path.{refl}
 use borrow.Author.Needs.{needs}
 use Rattle.model.specs.Directory.{blockCount}
-use Rattle.forks.proofs.growth.block_count.Statement.{statement}
-use Rattle.forks.proofs.growth.block_count.Tie as tie
+use Rattle.model.proofs.fork_facts.block_count.Statement.{statement}
+use Rattle.model.proofs.fork_facts.block_count.Tie as tie
 
 div-result : tie.Need-div-result
 div-result c = search needs
