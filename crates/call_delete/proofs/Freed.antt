@@ -74,7 +74,7 @@ module _ (image : List ℕ) (acc : Accepted image) (name : List ℕ) (there : an
   named-apart b =
       omega (
         arith,
-        part-once (N v) (acc .facts .most) (mapEntry image) (lists (mapEntry image) (A v) before)
+        part-once (N v) (acc .facts .layout .most) (mapEntry image) (lists (mapEntry image) (A v) before)
             (lists (mapEntry image) (A v) (forkOf Data it ∷ forkOf Resource it ∷ []))
             (lists (mapEntry image) (A v) beyond) both-sound b,
       )

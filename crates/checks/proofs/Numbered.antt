@@ -8,7 +8,7 @@ use borrow.Author.Tests.{ltb-false, eq-eqb, ne-eqb, le-ltb, lt-ltb}
 use Rattle.model.specs.Check.{fires1, fires2, fires3, fires4}
 use Rattle.model.specs.declared.VolumeFacts.{VolumeFacts}
 use Rattle.model.proofs.Lists.{or-false}
-use Rattle.model.proofs.Check.{Layout, layout}
+use Rattle.model.proofs.Check.{LayoutOf, layout}
 use Rattle.checks.specs.Limits.{factsNumber}
 use Rattle.checks.proofs.Firing.{fires-here, passes-here}
 
@@ -24,7 +24,7 @@ long-blocks size h =
 
 module _ (f : VolumeFacts) (blocks : ℕ) where
   -- it fires where something of the layout fails
-  pub layout-fires : (Layout f blocks → ⊥) → true ≡ fires3 f blocks
+  pub layout-fires : (LayoutOf f blocks → ⊥) → true ≡ fires3 f blocks
   layout-fires z = go (fires3 f blocks) refl
     where
       go : (t : Bool) → fires3 f blocks ≡ t → true ≡ t

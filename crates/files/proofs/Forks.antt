@@ -29,13 +29,13 @@ use Rattle.forks.proofs.Copying.{copyable}
 
 module _ {f : VolumeFacts} {image : List ℕ} (r : Readable f image) where
   pub large-block : 512 ≤ A f
-  large-block = rw (r .facts) (r .accepted .facts .large)
+  large-block = rw (r .facts) (r .accepted .facts .layout .large)
 
   pub small-block : A f ≤ 32768
-  small-block = rw (r .facts) (r .accepted .facts .small)
+  small-block = rw (r .facts) (r .accepted .facts .layout .small)
 
   pub few-in-volume : N f ≤ 640
-  few-in-volume = rw (r .facts) (r .accepted .facts .most)
+  few-in-volume = rw (r .facts) (r .accepted .facts .layout .most)
 
   pub free-blocks : freeCount f ≡ length (freeBlocks (mapEntry image) (N f))
   free-blocks = rw (r .facts) (r .accepted .blocks .counted)

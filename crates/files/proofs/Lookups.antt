@@ -56,7 +56,7 @@ module _ (image name : List ℕ) (n : Named) (h : Names image name n) where
 
 module _ {f : VolumeFacts} {image : List ℕ} (r : Readable f image) where
   pub some-block : 1 ≤ dirLength f
-  some-block = rw (r .facts) (r .accepted .facts .dirSome)
+  some-block = rw (r .facts) (r .accepted .facts .layout .dirSome)
 
   -- from its first entry on
   module _ (c : Cursor) (b : Begins (dirStart f .0) (dirLength f) c) where

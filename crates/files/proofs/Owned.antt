@@ -25,10 +25,10 @@ use Rattle.files.proofs.Forks.{named-bytes, fork-sound, starts}
 
 module _ {f : VolumeFacts} {image : List ℕ} {e : EntryAt} (h : FileAt f image e) where
   pub few : N f ≤ 640
-  few = rw (h .readable .facts) (h .readable .accepted .facts .most)
+  few = rw (h .readable .facts) (h .readable .accepted .facts .layout .most)
 
   pub small : A f ≤ 32768
-  small = rw (h .readable .facts) (h .readable .accepted .facts .small)
+  small = rw (h .readable .facts) (h .readable .accepted .facts .layout .small)
 
   -- what holds of the image's facts and the named entry
   pub at-named : (P : VolumeFacts → List ℕ → Type 0) → P (factsOf image) (entryNamed (h .name) image) → P f (bytesAt image e)

@@ -256,10 +256,10 @@ copyable image acc i l fork =
     record {
       n = N f;
       small = r .few;
-      block = acc .facts .large;
-      most = acc .facts .small;
-      whole = omega (arith, acc .facts .multiple);
-      start = omega (arith, acc .facts .backup, acc .facts .few);
+      block = acc .facts .layout .large;
+      most = acc .facts .layout .small;
+      whole = omega (arith, acc .facts .layout .multiple);
+      start = omega (arith, acc .facts .layout .backup, acc .facts .few);
       low = r .low;
       room = r .room;
       good = fork-good (mapEntry image) (N f) (A f) (forkOf fork (getD (directory image) i [])) (sound-fork image acc i l fork);

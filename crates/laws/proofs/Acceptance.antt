@@ -1,5 +1,5 @@
 -- Accepted images: their forks entry by entry, with their blocks and lengths, and what makes an image accepted.
-use Prim.Native.Nat.{ℕ, zero, suc, _+_, _*_, _≤_, _<_}
+use Prim.Native.Nat.{ℕ, zero, suc, _*_, _≤_, _<_}
 use mathlib.Core.Path.{_≡_, refl, sym, subst}
 use mathlib.Core.Bool.{Bool, true, false}
 use mathlib.Core.List.{List, [], _∷_, _++_}
@@ -134,16 +134,7 @@ counted-facts f size files number free s p = record {
   many = s .many;
   few = s .few;
   signed = s .signed;
-  multiple = s .multiple;
-  large = s .large;
-  small = s .small;
-  some = s .some;
-  most = s .most;
-  dirSome = s .dirSome;
-  dirMost = s .dirMost;
-  dirBehind = s .dirBehind;
-  dirBefore = s .dirBefore;
-  backup = s .backup;
+  layout = s .layout;
   numbered = p;
   title = s .title;
 }

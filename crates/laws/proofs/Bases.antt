@@ -26,19 +26,19 @@ module _ (image : List ℕ) (acc : Accepted image) where
   -- base has the image's facts and directory
   pub based : (bs base : List ℕ) → Framed (S (factsOf image)) (A (factsOf image)) bs image base → Based image base
   based bs base r =
-      let f = acc .facts in
+      let f = acc .facts .layout in
       based-bytes image base (r .size) (λ j low high. same-byte 0 1088 j base image (r .before) (omega arith) (omega arith))
       (λ j low high. same-byte 2048 (512 * S (factsOf image) .0 - 2048) j base image (r .between) (omega (arith, f .dirBehind)) (omega (arith, f .dirBefore)))
 
   -- the directory's and the counts' stores leave the map and the blocks
   low : 2048 ≤ 512 * S (factsOf image) .0
-  low = omega (arith, acc .facts .dirBehind, acc .facts .dirBefore)
+  low = omega (arith, acc .facts .layout .dirBehind, acc .facts .layout .dirBefore)
 
   pub alike-directory : (base : List ℕ) (bs : List (List ℕ)) → length base ≡ length image → Whole bs → length bs ≡ dirLength (factsOf image)
       → Alike (S (factsOf image)) (withDirectory (factsOf image) base bs) base
   unfolding withDirectory
   alike-directory base bs l w n =
-      let f = acc .facts in
+      let f = acc .facts .layout in
       alike-paste (S (factsOf image)) base (512 * dirStart (factsOf image) .0) (flat bs) (512 * dirLength (factsOf image))
       (omega (arith, readable-of image acc .within)) (omega (arith, whole-length bs w)) low (inr (omega (arith, f .dirBehind), omega (arith, f .dirBefore)))
 

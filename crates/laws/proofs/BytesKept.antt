@@ -226,14 +226,14 @@ module _ (image : List ℕ) (acc : Accepted image) where
       omega (
         arith,
         acc .files .count,
-        acc .facts .dirMost,
+        acc .facts .layout .dirMost,
         listing-few (directoryBlocks f image),
         cut-count (dirLength f) (drop (512 * dirStart f .0) image),
       )
 
   -- blocks that are at most N in number hold fewer bytes than a field can say
   size-fits : (k : ℕ) → k ≤ N (factsOf image) → k * A (factsOf image) < 4294967296
-  size-fits k l = omega (arith, acc .facts .most, acc .facts .small, mul-le-mul-right {m = k} {n = 640} (A f) (omega (arith, acc .facts .most)))
+  size-fits k l = let y = acc .facts .layout in omega (arith, y .most, y .small, mul-le-mul-right {m = k} {n = 640} (A f) (omega (arith, y .most)))
 
   -- the file of a name that is found
   module _ (name : List ℕ) (found : any (named name) (directory image) ≡ true) where
@@ -302,8 +302,8 @@ rewritten-kept : (image : List ℕ) → Accepted image → Bytes image → (name
 rewritten-kept image acc h name fork logical bs changed free base b w k l c r =
     let f = factsOf image in
     let g = withFork fork (A f) logical bs changed in
-    let o = octets-fork fork (A f) logical bs changed (first-low (N f) (acc .facts .most) bs w) l (size-fits image acc (length bs) k) c in
-    free-kept free (withDirectory f base (rewritten name g (directoryBlocks f image))) (omega (arith, acc .facts .most))
+    let o = octets-fork fork (A f) logical bs changed (first-low (N f) (acc .facts .layout .most) bs w) l (size-fits image acc (length bs) k) c in
+    free-kept free (withDirectory f base (rewritten name g (directoryBlocks f image))) (omega (arith, acc .facts .layout .most))
     (directory-kept f base (rewritten name g (directoryBlocks f image)) b
     (octets-rewritten name g o (directoryBlocks f image) (octets-directory f image (octets image h))))
 
@@ -326,8 +326,8 @@ written-bytes image acc h name fork o xs changed fits may =
     let w : InMap (N f) all = in-both (N f) old (take new (freeBlocks (mapEntry image) (N f))) (named-blocks image acc name found fork)
     (λ b p. let r = free-in (mapEntry image) (N f) new b p in (r .0, r .1)) in
     rewritten-kept image acc h name fork size all changed (freeCount f - new) (putContent (S f) (A f) (putChain image all) all o xs)
-    (bytes-putContent (S f) (A f) (putChain image all) all o xs (bytes-putChain (N f) (acc .facts .most) image all w h) (fits .2))
-    w (omega arith) (omega (arith, fewest-holds size (A f) (omega (arith, acc .facts .large)))) (fits .3) (omega (arith, count))
+    (bytes-putContent (S f) (A f) (putChain image all) all o xs (bytes-putChain (N f) (acc .facts .layout .most) image all w h) (fits .2))
+    w (omega arith) (omega (arith, fewest-holds size (A f) (omega (arith, acc .facts .layout .large)))) (fits .3) (omega (arith, count))
 
 pub shortened-bytes : (image : List ℕ) → Accepted image → Bytes image → (name : List ℕ) (fork : Fork) (size changed : ℕ)
     → Fits (cut name fork size changed) → MayCut image name fork size → Bytes (change (cut name fork size changed) image)
@@ -341,7 +341,7 @@ shortened-bytes image acc h name fork n changed fits may =
     let count = named-count image acc name found fork in
     let w : InMap (N f) kept = λ b p. named-blocks image acc name found fork b (omega (arith, times-take b (fewest n (A f)) old)) in
     rewritten-kept image acc h name fork n kept changed (freeCount f + length freed) (putFree (putChain image kept) freed)
-    (bytes-putFree (putChain image kept) freed (bytes-putChain (N f) (acc .facts .most) image kept w h))
+    (bytes-putFree (putChain image kept) freed (bytes-putChain (N f) (acc .facts .layout .most) image kept w h))
     w (rw length-take (omega arith))
     (omega (arith, may .within, named-holds image acc name found fork, size-fits image acc (length old) (omega arith)))
     (fits .2) (rw length-drop (omega arith))
@@ -357,7 +357,7 @@ deleted-bytes image acc h name fits may =
     let freed = content ++ resource in
     let bs = removed name (directoryBlocks f image) in
     free-kept (freeCount f + length freed) (withFiles (f .files - 1) (withDirectory f (putFree image freed) bs))
-    (omega (arith, length-append content resource, named-counts image acc name (may .exists), acc .facts .most))
+    (omega (arith, length-append content resource, named-counts image acc name (may .exists), acc .facts .layout .most))
     (files-kept (f .files - 1) (withDirectory f (putFree image freed) bs) (omega (arith, files-few image acc))
     (directory-kept f (putFree image freed) bs (bytes-putFree image freed h)
     (octets-removed name (directoryBlocks f image) (octets-directory f image (octets image h)))))

@@ -44,8 +44,8 @@ pub readable : (image : List ℕ) → Passes image → Readable image
 readable image p =
     let s = sound-facts (factsOf image) (length image) (p .pass1) (p .pass2) (p .pass3) (p .pass4) in
     record {
-      behind = s .dirBehind;
-      within = omega (arith, s .dirBefore, s .backup);
+      behind = s .layout .dirBehind;
+      within = omega (arith, s .layout .dirBefore, s .layout .backup);
       numbered = s .numbered;
       pass6 = p .pass6;
       pass7 = p .pass7;

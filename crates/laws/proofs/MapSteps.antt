@@ -49,10 +49,10 @@ count-with a m bs pos = rw mul-div-left
 
 pub sound-area : (f : VolumeFacts) (l : List ℕ) → SoundFacts f (length l) → Area (S f) (A f) (N f) l
 sound-area f l h = record {
-  few = h .most;
-  some = omega (arith, h .large);
-  low = omega (arith, h .dirBehind, h .dirBefore);
-  room = omega (arith, h .backup, h .many);
+  few = h .layout .most;
+  some = omega (arith, h .layout .large);
+  low = omega (arith, h .layout .dirBehind, h .layout .dirBefore);
+  room = omega (arith, h .layout .backup, h .many);
 }
 
 -- ---- what a step leaves alone

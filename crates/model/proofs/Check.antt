@@ -18,7 +18,7 @@ use Rattle.model.specs.Directory.{entrySize, directory, numberIn, nameIn
 use Rattle.model.specs.Check.{fires1, fires2, fires3, fires4, fires5, goodEntry, fires6, goodNumber, sameNumbers, sameNames, fires7}
 use Rattle.model.specs.Check.{emptyFork, fullFork, goodFork, sharesNone, fires8, fires9, fires10}
 use Rattle.model.specs.Check.{orElse, from9, from8, from7, from6, from5, from4, from3, from2, verdict}
-use Rattle.model.specs.Check.{SoundFacts, SoundEntry, SoundDirectory, SoundFork, forkAt, HasBlock, SoundMap, Accepted, VerdictIsAccepted}
+use Rattle.model.specs.Check.{Layout, SoundFacts, SoundEntry, SoundDirectory, SoundFork, forkAt, HasBlock, SoundMap, Accepted, VerdictIsAccepted}
 use Rattle.model.specs.declared.VolumeFacts.{VolumeFacts}
 use Rattle.model.specs.declared.ForkFacts.{ForkFacts}
 use Rattle.model.proofs.Lists.{and-true, or-false, not-so, so-not, every-at, at-every, distinct-at, at-distinct}
@@ -28,21 +28,12 @@ use Rattle.model.proofs.Map.{bad-above, runs-chain, chain-runs, chain-l
 
 -- ---- 1 to 4
 
--- what check 3 asks before the next file number
-pub record Layout (f : VolumeFacts) (blocks : ℕ) : Type 0 where
-  pub multiple : A f % 512 ≡ 0
-  pub large : 512 ≤ A f
-  pub small : A f ≤ 32768
-  pub some : 1 ≤ N f
-  pub most : N f ≤ 640
-  pub dirSome : 1 ≤ dirLength f
-  pub dirMost : dirLength f ≤ 256
-  pub dirBehind : 4 ≤ dirStart f .0
-  pub dirBefore : dirStart f .0 + dirLength f ≤ S f .0
-  pub backup : S f .0 + N f * A f / 512 ≤ blocks - 2
-
 module _ (f : VolumeFacts) (blocks : ℕ) where
-  pub layout : fires3 f blocks ≡ false → Layout f blocks
+  -- what check 3 asks but for the next file number
+  abbrev pub LayoutOf : Type 0
+  LayoutOf = Layout (A f) (N f) (dirStart f) (dirLength f) (S f) blocks
+
+  pub layout : fires3 f blocks ≡ false → LayoutOf
   unfolding fires3
   layout h =
       let c = or-false (not (eqb (A f % 512) 0)) _ h in
@@ -69,7 +60,7 @@ module _ (f : VolumeFacts) (blocks : ℕ) where
       }
 
   -- where all that holds, the next file number is left
-  pub layout-left : Layout f blocks → eqb (nextNumber f) 0 ≡ fires3 f blocks
+  pub layout-left : LayoutOf → eqb (nextNumber f) 0 ≡ fires3 f blocks
   unfolding fires3
   layout-left s =
       rw (
@@ -98,16 +89,7 @@ module _ (f : VolumeFacts) (size : ℕ) where
         many = ltb-false (size / 512) 8 (b .0);
         few = ltb-false 65535 (size / 512) (b .1);
         signed = eqb-true (f .signature) 0xd2d7 (not-false _ h₂);
-        multiple = y .multiple;
-        large = y .large;
-        small = y .small;
-        some = y .some;
-        most = y .most;
-        dirSome = y .dirSome;
-        dirMost = y .dirMost;
-        dirBehind = y .dirBehind;
-        dirBefore = y .dirBefore;
-        backup = y .backup;
+        layout = y;
         numbered = let z = eqb-false (nextNumber f) 0 n in omega arith;
         title = ltb-false 27 (f .«name_length») h₄;
       }
@@ -122,21 +104,7 @@ module _ (f : VolumeFacts) (size : ℕ) where
     facts-pass2 = ap not (eq-eqb (f .signature) 0xd2d7 (s .signed))
 
     pub facts-pass3 : fires3 f (size / 512) ≡ false
-    facts-pass3 =
-        let y : Layout f (size / 512)
-        = record {
-          multiple = s .multiple;
-          large = s .large;
-          small = s .small;
-          some = s .some;
-          most = s .most;
-          dirSome = s .dirSome;
-          dirMost = s .dirMost;
-          dirBehind = s .dirBehind;
-          dirBefore = s .dirBefore;
-          backup = s .backup;
-        } in
-        sym (layout-left f (size / 512) y) ∙ ne-eqb (nextNumber f) 0 (omega (arith, s .numbered))
+    facts-pass3 = sym (layout-left f (size / 512) (s .layout)) ∙ ne-eqb (nextNumber f) 0 (omega (arith, s .numbered))
 
     pub facts-pass4 : fires4 f ≡ false
     unfolding fires4

@@ -12,6 +12,7 @@ use Rattle.model.specs.Facts.{factsOf, dirStart, dirLength, N, A, S, nex
 use Rattle.model.specs.Map.{mapEntry, sortOf, isBad, Chain, runs, freeBlocks}
 use Rattle.model.specs.Directory.{entrySize, directory, numberIn, nameIn, forksIn, blockCount, forkBlocks, ownedBlocks, folded, sameName}
 use Rattle.model.specs.declared.VolumeFacts.{VolumeFacts}
+use Rattle.model.specs.declared.LogicalBlock.{LogicalBlock}
 use Rattle.model.specs.declared.ForkFacts.{ForkFacts}
 
 -- ---- 1 to 4: the volume information
@@ -127,6 +128,24 @@ verdict image = orElse (fires1 (length image)) 1 (from2 (factsOf image) image)
 
 -- ---- The same as plain facts
 
+-- what check 3 asks, but for the next file number: a is A, n is N, start and long are the directory's start and length, s is S
+pub record Layout (a n : ℕ) (start : LogicalBlock) (long : ℕ) (s : LogicalBlock) (blocks : ℕ) : Type 0 where
+  -- A a multiple of 512 from 512 to 32,768
+  pub multiple : a % 512 ≡ 0
+  pub large : 512 ≤ a
+  pub small : a ≤ 32768
+  -- N 1 to 640
+  pub some : 1 ≤ n
+  pub most : n ≤ 640
+  -- directory length 1 to 256 and its start not below 4
+  pub dirSome : 1 ≤ long
+  pub dirMost : long ≤ 256
+  pub dirBehind : 4 ≤ start .0
+  -- directory end not beyond S
+  pub dirBefore : start .0 + long ≤ s .0
+  -- S + N·A/512 not beyond the image's blocks less 2
+  pub backup : s .0 + n * a / 512 ≤ blocks - 2
+
 -- what checks 1 to 4 ask of the facts of an image of so many bytes
 pub record SoundFacts (f : VolumeFacts) (size : ℕ) : Type 0 where
   -- 1
@@ -136,16 +155,7 @@ pub record SoundFacts (f : VolumeFacts) (size : ℕ) : Type 0 where
   -- 2
   pub signed : f .signature ≡ 0xd2d7
   -- 3
-  pub multiple : A f % 512 ≡ 0
-  pub large : 512 ≤ A f
-  pub small : A f ≤ 32768
-  pub some : 1 ≤ N f
-  pub most : N f ≤ 640
-  pub dirSome : 1 ≤ dirLength f
-  pub dirMost : dirLength f ≤ 256
-  pub dirBehind : 4 ≤ dirStart f .0
-  pub dirBefore : dirStart f .0 + dirLength f ≤ S f .0
-  pub backup : S f .0 + N f * A f / 512 ≤ size / 512 - 2
+  pub layout : Layout (A f) (N f) (dirStart f) (dirLength f) (S f) (size / 512)
   pub numbered : 1 ≤ nextNumber f
   -- 4
   pub title : f .«name_length» ≤ 27

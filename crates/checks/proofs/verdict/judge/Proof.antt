@@ -39,10 +39,10 @@ sound c =
     let s = start c in facts-sound (s .args .f) (now (s .args .image)) _ (c .before .facts-number .ensures) (c .if1 .left) (s .pre .long)
 
 decode-requires : tie.Need-decode-requires
-decode-requires c κs = let s = sound c in (s .most, omega arith)
+decode-requires c κs = let s = sound c in (s .layout .most, omega arith)
 
 any-bad-requires : tie.Need-any-bad-requires
-any-bad-requires c κs = sound (c .before .before) .most
+any-bad-requires c κs = sound (c .before .before) .layout .most
 
 -- what the decoded map says of check 5, the image's says
 five : (c : tie.After-any-bad)
@@ -55,7 +55,7 @@ returns-2 c =
     by-map5 _ _ _ (facts .before .facts-number .ensures) (facts .if1 .left) (five (c .before) ∙ c .if2 .taken)
 
 new-requires : tie.Need-new-requires
-new-requires c κs = sound (past-facts (c .before .before)) .dirSome
+new-requires c κs = sound (past-facts (c .before .before)) .layout .dirSome
 
 -- the cursor's entries are the directory
 entries : (c : tie.After-new) → let s = start (at-facts c) in

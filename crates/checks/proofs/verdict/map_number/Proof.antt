@@ -37,7 +37,7 @@ claim-all-requires : tie.Need-claim-all-requires
 claim-all-requires c κs = search needs
 
 returns : tie.Need-returns
-returns c = let claim = c .before in number-8 _ (claim .before .before .before .pre .facts .most) _ _ _ _ (claimed claim) (not-true _ (c .if1 .taken))
+returns c = let claim = c .before in number-8 _ (claim .before .before .before .pre .facts .layout .most) _ _ _ _ (claimed claim) (not-true _ (c .if1 .taken))
 
 any-unowned-requires : tie.Need-any-unowned-requires
 any-unowned-requires c κs = search needs
@@ -46,7 +46,8 @@ returns-2 : tie.Need-returns-2
 returns-2 c =
     let past = c .before .before .before in
     let claim = past .before in
-    number-9 _ (claim .before .before .before .pre .facts .most) _ _ _ _ (claimed claim) (not-false _ (past .if1 .left)) (lost (c .before) ∙ c .if2 .taken)
+    number-9 _ (claim .before .before .before .pre .facts .layout .most) _ _ _ _ (claimed claim) (not-false _ (past .if1 .left))
+    (lost (c .before) ∙ c .if2 .taken)
 
 free-count-requires : tie.Need-free-count-requires
 free-count-requires c κs = search needs
@@ -57,7 +58,7 @@ returns-3 c =
     let owned = count .before in
     let past = owned .before .before .before in
     let claim = past .before in
-    number-10 _ (claim .before .before .before .pre .facts .most) _ _ _ _ (claimed claim) (not-false _ (past .if1 .left)) (lost (owned .before)
+    number-10 _ (claim .before .before .before .pre .facts .layout .most) _ _ _ _ (claimed claim) (not-false _ (past .if1 .left)) (lost (owned .before)
     ∙ owned .if2 .left)
     _ (counted count) (c .if3 .taken)
 
@@ -67,7 +68,7 @@ returns-4 c =
     let owned = count .before in
     let past = owned .before .before .before in
     let claim = past .before in
-    number-0 _ (claim .before .before .before .pre .facts .most) _ _ _ _ (claimed claim) (not-false _ (past .if1 .left)) (lost (owned .before)
+    number-0 _ (claim .before .before .before .pre .facts .layout .most) _ _ _ _ (claimed claim) (not-false _ (past .if1 .left)) (lost (owned .before)
     ∙ owned .if2 .left)
     _ (counted count) (c .if3 .left)
 
