@@ -14,10 +14,10 @@ use Rattle.model.specs.Directory.{readAt, entries, readEnd, cutBlocks, director
 use Rattle.model.specs.Check.{goodEntry, fires6}
 use Rattle.model.specs.Calls.{filled, hasRoom, placed, withDirectory}
 use Rattle.model.specs.declared.VolumeFacts.{VolumeFacts}
-use Rattle.model.proofs.Lists.{and-true, or-false, any-append, every-append}
+use Rattle.model.proofs.Lists.{and-true, any-append, every-append}
 use Rattle.laws.proofs.Block.{sound, added-reads}
 use Rattle.laws.proofs.Blocks.{Cleans, cut-count, clean-parts, listing-append}
-use Rattle.laws.proofs.Places.{added-bytes}
+use Rattle.laws.proofs.Places.{placed-at, added-bytes}
 use Rattle.laws.proofs.Image.{one-block}
 use Rattle.directory.specs.declared.Cursor.{Cursor}
 use Rattle.directory.specs.Cursor.{blockOf, restOf, Passes}
@@ -95,14 +95,6 @@ added-stores image base k e room s z hs hz x y px py =
     py ∙ ap (λ (t : List ℕ). paste t (s + length e) (zeros z) z) px
     ∙ cleared-behind image base s (length e) z e (omega arith) (omega arith) (omega arith) (omega arith)
     ∙ ap (λ (t : List ℕ). paste image base t 512) (sym whole)
-
-placed-at : (e : List ℕ) (x : List (List ℕ)) (b : List ℕ) (y : List (List ℕ)) → any (hasRoom (length e)) x ≡ false → hasRoom (length e) b ≡ true
-    → placed e (x ++ (b ∷ y)) ≡ x ++ (filled (entries b ++ (e ∷ [])) ∷ y)
-unfolding any placed
-placed-at e [] b y u v = rw (v, placed) refl
-placed-at e (c ∷ x) b y u v =
-    let s = or-false (hasRoom (length e) c) (any (hasRoom (length e)) x) u in
-    rw (s .0, placed) (ap (λ (r : List (List ℕ)). c ∷ r) (placed-at e x b y (s .1) v))
 
 -- the model's change is there
 pub room-placed : (f : VolumeFacts) (image : List ℕ) → 512 * dirStart f .0 + 512 * dirLength f ≤ length image → Cleans (directoryBlocks f image)

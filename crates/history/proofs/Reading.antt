@@ -1,15 +1,14 @@
 -- How an accepted image reads as facts and files: the blocks that its files have, what makes an image agree with a history, and
 -- files whose forks keep their bytes.
-use Prim.Native.Nat.{ℕ, _+_, _-_}
+use Prim.Native.Nat.{ℕ}
 use mathlib.Core.Path.{_≡_, refl, sym, ap, ap₂, _∙_}
 use mathlib.Core.List.{List, [], _∷_, _++_, map, map-append}
 use native.Mathlib.Omega.{arith}
 use lib.ListN.{length, length-map}
 use Rattle.model.specs.Lists.{Reordered, none, next, swap, then}
-use Rattle.model.specs.Bytes.{byte, be32}
 use Rattle.model.specs.Facts.{factsOf, N, A, S, nextNumber, freeCount, withCounts}
 use Rattle.model.specs.Map.{mapEntry}
-use Rattle.model.specs.Directory.{directory, numberIn, nameIn, finderIn, forkOf, forksIn, blockCount}
+use Rattle.model.specs.Directory.{directory, forkOf, forksIn, blockCount}
 use Rattle.model.specs.Check.{Accepted}
 use Rattle.model.specs.Calls.{forkBytes}
 use Rattle.history.specs.History.{File, History, blocksOf, freeOf, factsNow, heldIn, fileIn, filesIn, reading, Agrees}
@@ -77,20 +76,17 @@ starts image acc = agrees-from image (reading image) acc (same-list (filesIn ima
 
 -- ---- files whose forks keep their bytes
 
+pub held-same : (f g : VolumeFacts) (image left : List ℕ) (x : ForkFacts) → S g ≡ S f → A g ≡ A f
+    → forkBytes (S f) (A f) left x ≡ forkBytes (S f) (A f) image x → heldIn g left x ≡ heldIn f image x
+unfolding heldIn
+held-same f g image left x s a h = λ i. record { bytes = (ap₂ (λ u v. forkBytes u v left x) s a ∙ h) i; count = blockCount (a i) x }
+
 file-same : (f g : VolumeFacts) (image left e : List ℕ) → S g ≡ S f → A g ≡ A f
     → forkBytes (S f) (A f) left (forkOf Data e) ≡ forkBytes (S f) (A f) image (forkOf Data e)
     → forkBytes (S f) (A f) left (forkOf Resource e) ≡ forkBytes (S f) (A f) image (forkOf Resource e) → fileIn g left e ≡ fileIn f image e
-unfolding fileIn heldIn
-file-same f g image left e s a d r = λ i. record {
-  number = numberIn e;
-  name = nameIn e;
-  flags = byte e 0;
-  finder = finderIn e;
-  created = be32 e 42;
-  changed = be32 e 46;
-  content = record { bytes = (ap₂ (λ x y. forkBytes x y left (forkOf Data e)) s a ∙ d) i; count = blockCount (a i) (forkOf Data e) };
-  resource = record { bytes = (ap₂ (λ x y. forkBytes x y left (forkOf Resource e)) s a ∙ r) i; count = blockCount (a i) (forkOf Resource e) };
-}
+unfolding fileIn
+file-same f g image left e s a d r =
+    rw (held-same f g image left (forkOf Data e) s a d, held-same f g image left (forkOf Resource e) s a r)
 
 pub files-same : (f g : VolumeFacts) (image left : List ℕ) (es : List (List ℕ)) → S g ≡ S f → A g ≡ A f
     → Each (λ x. forkBytes (S f) (A f) left x ≡ forkBytes (S f) (A f) image x) (forksIn es) → map (fileIn g left) es ≡ map (fileIn f image) es

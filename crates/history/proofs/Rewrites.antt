@@ -7,7 +7,7 @@ use lib.ListN.{length}
 use Rattle.model.specs.Lists.{any, times}
 use Rattle.model.specs.Facts.{factsOf, A, S, nextNumber, withCounts}
 use Rattle.model.specs.Map.{mapEntry}
-use Rattle.model.specs.Directory.{directory, forkOf, forksIn, blockCount, forkBlocks, named}
+use Rattle.model.specs.Directory.{directory, forkOf, forksIn, forkBlocks, named}
 use Rattle.model.specs.Check.{Accepted}
 use Rattle.model.specs.Calls.{Call, forkBytes, onNamed, withFork}
 use Rattle.history.specs.History.{Held, File, History, heldIn, fileIn, filesIn, factsNow, changedFork, onCalled, called, following}
@@ -16,19 +16,14 @@ use Rattle.model.specs.declared.VolumeFacts.{VolumeFacts}
 use Rattle.model.specs.declared.ForkFacts.{ForkFacts}
 use Rattle.model.specs.declared.Fork.{Fork}
 use Rattle.model.specs.declared.Fork.the-variants.{Data, Resource}
-use Rattle.laws.proofs.Reorder.{Alone, after-change}
+use Rattle.laws.proofs.Reorder.{after-change}
 use Rattle.laws.proofs.Sound.{Each, each-same, each-left, each-right}
 use Rattle.laws.proofs.MapSteps.{forkWith}
 use Rattle.laws.proofs.Entry.{fork-flags, fork-number, fork-finder, fork-created, fork-name, fork-changed, fork-fields, other-resource, other-data}
-use Rattle.laws.proofs.TheEntry.{it-alone, theEntry, the-length, around, beyond}
-use Rattle.laws.proofs.Rewrites.{Rewritten, listed, rewrite-accepted, entry-now}
-use Rattle.history.proofs.Reading.{SameVolume, agrees-from, files-same}
+use Rattle.laws.proofs.TheEntry.{the-length, around, beyond}
+use Rattle.laws.proofs.Rewrites.{Rewritten, alone, entry, stored, listed, rewrite-accepted, entry-now}
+use Rattle.history.proofs.Reading.{SameVolume, agrees-from, held-same, files-same}
 use Rattle.history.proofs.Joined.{only-named, uncalled}
-
-held-same : (f : VolumeFacts) (image left : List ℕ) (g : ForkFacts)
-    → forkBytes (S f) (A f) left g ≡ forkBytes (S f) (A f) image g → heldIn f left g ≡ heldIn f image g
-unfolding heldIn
-held-same f image left g h = λ i. record { bytes = h i; count = blockCount (A f) g }
 
 -- a file whose one fork has other fields and holds F of what it held, and whose other fork keeps its bytes
 other : Fork → Fork
@@ -48,7 +43,7 @@ file-stored Data f image left e logical bs changed F l own h = λ i. record {
   created = fork-created Data (A f) logical bs changed e i;
   changed = fork-changed Data (A f) logical bs changed e l i;
   content = (ap (heldIn f left) (fork-fields Data (A f) logical bs changed e l) ∙ own) i;
-  resource = (ap (heldIn f left) (other-resource (A f) logical bs changed e) ∙ held-same f image left (forkOf Resource e) h) i;
+  resource = (ap (heldIn f left) (other-resource (A f) logical bs changed e) ∙ held-same f f image left (forkOf Resource e) refl refl h) i;
 }
 file-stored Resource f image left e logical bs changed F l own h = λ i. record {
   number = fork-number Resource (A f) logical bs changed e i;
@@ -57,7 +52,7 @@ file-stored Resource f image left e logical bs changed F l own h = λ i. record 
   finder = fork-finder Resource (A f) logical bs changed e i;
   created = fork-created Resource (A f) logical bs changed e i;
   changed = fork-changed Resource (A f) logical bs changed e l i;
-  content = (ap (heldIn f left) (other-data (A f) logical bs changed e) ∙ held-same f image left (forkOf Data e) h) i;
+  content = (ap (heldIn f left) (other-data (A f) logical bs changed e) ∙ held-same f f image left (forkOf Data e) refl refl h) i;
   resource = (ap (heldIn f left) (fork-fields Resource (A f) logical bs changed e l) ∙ own) i;
 }
 
@@ -73,15 +68,6 @@ module _ {image : List ℕ} {acc : Accepted image} {name : List ℕ} {there : an
   abbrev f : VolumeFacts
   f = factsOf image
 
-  abbrev o : Alone (named name) (directory image)
-  o = it-alone image acc name there
-
-  abbrev e : List ℕ
-  e = theEntry image acc name there
-
-  abbrev now : List ℕ → List ℕ
-  now = withFork fork (A (factsOf image)) logical bs changed
-
   -- the bytes of every other fork are the same
   abbrev Same : ForkFacts → Type 0
   Same x = forkBytes (S f) (A f) left x ≡ forkBytes (S f) (A f) image x
@@ -92,56 +78,56 @@ module _ {image : List ℕ} {acc : Accepted image} {name : List ℕ} {there : an
   same-behind : Each Same (beyond image acc name there fork)
   same-behind = each-same (forkBytes (S f) (A f) left) (forkBytes (S f) (A f) image) (beyond image acc name there fork) (r .forks .bytesBehind)
 
-  before-same : map (fileIn f left) (o .before) ≡ map (fileIn f image) (o .before)
-  before-same = files-same f f image left (o .before) refl refl (go fork same-before)
+  before-same : map (fileIn f left) (alone r .before) ≡ map (fileIn f image) (alone r .before)
+  before-same = files-same f f image left (alone r .before) refl refl (go fork same-before)
     where
-      go : (k : Fork) → Each Same (around image acc name there k) → Each Same (forksIn (o .before))
+      go : (k : Fork) → Each Same (around image acc name there k) → Each Same (forksIn (alone r .before))
       go Data x = x
-      go Resource x = each-left Same (forksIn (o .before)) (forkOf Data e ∷ []) x
+      go Resource x = each-left Same (forksIn (alone r .before)) (forkOf Data (entry r) ∷ []) x
 
-  behind-same : map (fileIn f left) (o .behind) ≡ map (fileIn f image) (o .behind)
+  behind-same : map (fileIn f left) (alone r .behind) ≡ map (fileIn f image) (alone r .behind)
   unfolding Each
-  behind-same = files-same f f image left (o .behind) refl refl (go fork same-behind)
+  behind-same = files-same f f image left (alone r .behind) refl refl (go fork same-behind)
     where
-      go : (k : Fork) → Each Same (beyond image acc name there k) → Each Same (forksIn (o .behind))
+      go : (k : Fork) → Each Same (beyond image acc name there k) → Each Same (forksIn (alone r .behind))
       go Data x = x .1
       go Resource x = x
 
-  other-same : Same (forkOf (other fork) e)
+  other-same : Same (forkOf (other fork) (entry r))
   unfolding other Each
   other-same = go fork same-before same-behind
     where
-      go : (k : Fork) → Each Same (around image acc name there k) → Each Same (beyond image acc name there k) → Same (forkOf (other k) e)
+      go : (k : Fork) → Each Same (around image acc name there k) → Each Same (beyond image acc name there k) → Same (forkOf (other k) (entry r))
       go Data p q = q .0
-      go Resource p q = each-right Same (forksIn (o .before)) (forkOf Data e ∷ []) p .0
+      go Resource p q = each-right Same (forksIn (alone r .before)) (forkOf Data (entry r) ∷ []) p .0
 
-  filesIn-left : filesIn left ≡ map (fileIn f left) (map (onNamed name now) (directory image))
+  filesIn-left : filesIn left ≡ map (fileIn f left) (map (onNamed name (stored r)) (directory image))
   unfolding filesIn fileIn heldIn withCounts
   filesIn-left = ap₂ (λ (v : VolumeFacts) (xs : List (List ℕ)). map (fileIn v left) xs) (r .step .facts) (r .step .entries)
 
   -- what the fork holds is F of what it held
   module _ (F : Held → Held)
-      (own : heldIn (factsOf image) left (forkWith (A (factsOf image)) logical bs) ≡ F (heldIn (factsOf image) image (forkOf fork e))) where
+      (own : heldIn (factsOf image) left (forkWith (A (factsOf image)) logical bs) ≡ F (heldIn (factsOf image) image (forkOf fork (entry r)))) where
     abbrev step : File → File
     step = onCalled name (changedFork fork F changed)
 
     -- the named file changes in the history, and no other
     history-now : map step (map (fileIn f image) (directory image))
-        ≡ map (fileIn f image) (o .before) ++ (changedFork fork F changed (fileIn f image e) ∷ map (fileIn f image) (o .behind))
+        ≡ map (fileIn f image) (alone r .before) ++ (changedFork fork F changed (fileIn f image (entry r)) ∷ map (fileIn f image) (alone r .behind))
     history-now =
         let g = changedFork fork F changed in
-        ap (λ (xs : List (List ℕ)). map step (map (fileIn f image) xs)) (o .whole)
-        ∙ ap (map step) (map-append (fileIn f image) (o .before) (e ∷ o .behind))
-        ∙ map-append step (map (fileIn f image) (o .before)) (fileIn f image e ∷ map (fileIn f image) (o .behind))
-        ∙ (λ i. uncalled name g f image (o .before) (o .noneBefore) i
-        ++ (called-changes name g f image e (o .passes) i ∷ uncalled name g f image (o .behind) (o .noneBehind) i))
+        ap (λ (xs : List (List ℕ)). map step (map (fileIn f image) xs)) (alone r .whole)
+        ∙ ap (map step) (map-append (fileIn f image) (alone r .before) (entry r ∷ alone r .behind))
+        ∙ map-append step (map (fileIn f image) (alone r .before)) (fileIn f image (entry r) ∷ map (fileIn f image) (alone r .behind))
+        ∙ (λ i. uncalled name g f image (alone r .before) (alone r .noneBefore) i
+        ++ (called-changes name g f image (entry r) (alone r .passes) i ∷ uncalled name g f image (alone r .behind) (alone r .noneBehind) i))
 
     -- every file is the history's
-    files-now : map (fileIn f left) (map (onNamed name now) (directory image)) ≡ map step (map (fileIn f image) (directory image))
+    files-now : map (fileIn f left) (map (onNamed name (stored r)) (directory image)) ≡ map step (map (fileIn f image) (directory image))
     files-now =
-        let file = file-stored fork f image left e logical bs changed F (the-length image acc name there) own other-same in
+        let file = file-stored fork f image left (entry r) logical bs changed F (the-length image acc name there) own other-same in
         ap (map (fileIn f left)) (listed r)
-        ∙ map-append (fileIn f left) (o .before) (now e ∷ o .behind)
+        ∙ map-append (fileIn f left) (alone r .before) (stored r (entry r) ∷ alone r .behind)
         ∙ (λ i. before-same i ++ (file i ∷ behind-same i))
         ∙ sym history-now
 
@@ -156,18 +142,18 @@ module _ {image : List ℕ} {acc : Accepted image} {name : List ℕ} {there : an
       unfolding filesIn
       rewrite-agrees =
           agrees-from left (record { facts = h .facts; files = map step (h .files) }) (rewrite-accepted r)
-          (rw filesIn-left (after-change (fileIn f image) (fileIn f left) (directory image) (a .files) (onNamed name now) step files-now)) same-volume
+          (rw filesIn-left (after-change (fileIn f image) (fileIn f left) (directory image) (a .files) (onNamed name (stored r)) step files-now)) same-volume
 
   -- the blocks of the named fork afterwards
   pub named-now-blocks : blocksNamed left name fork ≡ forkBlocks (mapEntry left) (A f) (forkWith (A f) logical bs)
   unfolding blocksNamed withCounts
   named-now-blocks =
       ap₂ (λ (v : VolumeFacts) (x : List ℕ). forkBlocks (mapEntry left) (A v) (forkOf fork x)) (r .step .facts) (entry-now r)
-      ∙ ap (forkBlocks (mapEntry left) (A f)) (fork-fields fork (A f) logical bs changed e (the-length image acc name there))
+      ∙ ap (forkBlocks (mapEntry left) (A f)) (fork-fields fork (A f) logical bs changed (entry r) (the-length image acc name there))
 
   -- only the named bytes differ, where the blocks touched are the named fork's before or after
   pub rewrite-kept : (call : Call) → 1 ≤ following call .directories
       → ((b : ℕ) → 1 ≤ times b touched → 1 ≤ times b (namedBlocks call image ++ namedBlocks call left)) → OnlyNamed call image left
   rewrite-kept call one sub =
-      only-named image call touched (r .base) left (map (onNamed name now) (directory image)) (f .files) (nextNumber f) free one
+      only-named image call touched (r .base) left (map (onNamed name (stored r)) (directory image)) (f .files) (nextNumber f) free one
       (r .step) (r .frame) sub

@@ -37,7 +37,7 @@ any-listing p [] = refl
 any-listing p (b ∷ bs) = any-append p (entries b) (listing bs) ∙ ap (λ (r : Bool). any p (entries b) || r) (any-listing p bs)
 
 -- create
-placed-at : (e : List ℕ) (x : List (List ℕ)) (b : List ℕ) (y : List (List ℕ)) → any (hasRoom (length e)) x ≡ false → hasRoom (length e) b ≡ true
+pub placed-at : (e : List ℕ) (x : List (List ℕ)) (b : List ℕ) (y : List (List ℕ)) → any (hasRoom (length e)) x ≡ false → hasRoom (length e) b ≡ true
     → placed e (x ++ (b ∷ y)) ≡ x ++ (filled (entries b ++ (e ∷ [])) ∷ y)
 unfolding any placed
 placed-at e [] b y u v = rw (v, placed) refl

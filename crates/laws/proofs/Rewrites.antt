@@ -38,41 +38,42 @@ module _ {image : List ℕ} {acc : Accepted image} {name : List ℕ} {there : an
   abbrev f : VolumeFacts
   f = factsOf image
 
-  abbrev o : Alone (named name) (directory image)
-  o = it-alone image acc name there
+  -- the named entry among the others, its bytes, and how they change
+  abbrev pub alone : Alone (named name) (directory image)
+  alone = it-alone image acc name there
 
-  abbrev e : List ℕ
-  e = theEntry image acc name there
+  abbrev pub entry : List ℕ
+  entry = theEntry image acc name there
 
-  abbrev now : List ℕ → List ℕ
-  now = withFork fork (A (factsOf image)) logical bs changed
+  abbrev pub stored : List ℕ → List ℕ
+  stored = withFork fork (A f) logical bs changed
 
-  pub listed : map (onNamed name (withFork fork (A (factsOf image)) logical bs changed)) (directory image)
-      ≡ o .before ++ (withFork fork (A (factsOf image)) logical bs changed e ∷ o .behind)
-  listed = named-map name (directory image) o now
+  pub listed : map (onNamed name stored) (directory image)
+      ≡ alone .before ++ (stored entry ∷ alone .behind)
+  listed = named-map name (directory image) alone stored
 
-  forks-left : forksIn (map (onNamed name now) (directory image))
+  forks-left : forksIn (map (onNamed name stored) (directory image))
       ≡ around image acc name there fork ++ (forkWith (A f) logical bs ∷ beyond image acc name there fork)
-  forks-left = ap forksIn listed ∙ forks-stored fork (A f) logical bs changed (o .before) e (o .behind) (the-length image acc name there)
+  forks-left = ap forksIn listed ∙ forks-stored fork (A f) logical bs changed (alone .before) entry (alone .behind) (the-length image acc name there)
 
   pub rewrite-accepted : Accepted left
   rewrite-accepted =
       let t = r .step in
-      accepted-from image left (map (onNamed name now) (directory image)) (f .files) (nextNumber f) free acc
+      accepted-from image left (map (onNamed name stored) (directory image)) (f .files) (nextNumber f) free acc
       (t .long) (t .facts) (t .entries) (t .pass6) (t .pass7) (acc .facts .numbered) (rw forks-left (r .forks .passes))
 
   -- the named entry afterwards
-  unfoldable alone-now : Alone (named name) (map (onNamed name now) (directory image))
+  unfoldable alone-now : Alone (named name) (map (onNamed name stored) (directory image))
   alone-now = record {
-    before = o .before;
-    it = now e;
-    behind = o .behind;
+    before = alone .before;
+    it = stored entry;
+    behind = alone .behind;
     whole = listed;
-    passes = fork-named fork (A f) logical bs changed name e ∙ o .passes;
-    noneBefore = o .noneBefore;
-    noneBehind = o .noneBehind;
+    passes = fork-named fork (A f) logical bs changed name entry ∙ alone .passes;
+    noneBefore = alone .noneBefore;
+    noneBehind = alone .noneBehind;
   }
 
-  pub entry-now : entryNamed name left ≡ withFork fork (A (factsOf image)) logical bs changed e
+  pub entry-now : entryNamed name left ≡ stored entry
   unfolding entryNamed alone-now
-  entry-now = ap (first (named name) []) (r .step .entries) ∙ named-first name (map (onNamed name now) (directory image)) alone-now
+  entry-now = ap (first (named name) []) (r .step .entries) ∙ named-first name (map (onNamed name stored) (directory image)) alone-now

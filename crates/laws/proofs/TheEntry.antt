@@ -54,6 +54,12 @@ module _ (fork : Fork) (a logical : ℕ) (bs : List ℕ) (changed : ℕ) where
       go Data = rw (fork-fields Data a logical bs changed e l, other-resource a logical bs changed e)
       go Resource = rw (fork-fields Resource a logical bs changed e l, other-data a logical bs changed e)
 
+-- the forks before and behind a fork g, which pass the map's checks with it
+pub record Neighbours (image : List ℕ) (g : ForkFacts) : Type 0 where
+  pub before : List ForkFacts
+  pub behind : List ForkFacts
+  pub passes : MapPasses (mapEntry image) (N (factsOf image)) (A (factsOf image)) (freeCount (factsOf image)) (before ++ (g ∷ behind))
+
 -- the named entry of an accepted image, and the fork among the others
 module _ (image : List ℕ) (acc : Accepted image) (name : List ℕ) (there : any (named name) (directory image) ≡ true) where
   pub it-alone : Alone (named name) (directory image)
@@ -65,6 +71,9 @@ module _ (image : List ℕ) (acc : Accepted image) (name : List ℕ) (there : an
   pub the-entry : entryNamed name image ≡ theEntry
   unfolding entryNamed
   the-entry = named-first name (directory image) it-alone
+
+  pub the-fork : (fork : Fork) → forkOf fork (entryNamed name image) ≡ forkOf fork theEntry
+  the-fork fork = ap (forkOf fork) the-entry
 
   pub the-length : 50 ≤ length theEntry
   unfolding fires6 every
@@ -89,3 +98,6 @@ module _ (image : List ℕ) (acc : Accepted image) (name : List ℕ) (there : an
   passes-there fork =
       let f = factsOf image in
       subst (MapPasses (mapEntry image) (N f) (A f) (freeCount f)) (forks-there fork) (map-passes image acc)
+
+  abbrev pub neighbours : (fork : Fork) → Neighbours image (forkOf fork theEntry)
+  neighbours fork = record { before = around fork; behind = beyond fork; passes = passes-there fork }

@@ -2,7 +2,7 @@
 use Prim.Native.Nat.{ℕ, _+_, _-_, _≤_, max}
 use mathlib.Core.Path.{_≡_, sym, ap, subst, _∙_}
 use mathlib.Core.Bool.{true}
-use mathlib.Core.List.{List, _∷_, _++_}
+use mathlib.Core.List.{List}
 use native.Mathlib.Omega.{arith}
 use lib.ListN.{length}
 use Rattle.model.specs.Lists.{any}
@@ -11,13 +11,12 @@ use Rattle.model.specs.Facts.{factsOf, N, A, S, freeCount}
 use Rattle.model.specs.Map.{mapEntry}
 use Rattle.model.specs.Directory.{directory, forkOf, blockCount, forkBlocks, named}
 use Rattle.model.specs.Check.{Accepted}
-use Rattle.model.specs.Calls.{grown, needed, fewest, entryNamed, forkBytes, written, change}
+use Rattle.model.specs.Calls.{grown, needed, fewest, forkBytes, written, change}
 use Rattle.model.specs.Calls.Call.{write}
 use Rattle.model.specs.declared.VolumeFacts.{VolumeFacts}
 use Rattle.model.specs.declared.ForkFacts.{ForkFacts}
 use Rattle.model.specs.declared.Fork.{Fork}
 use Rattle.laws.proofs.Content.{length-overwritten}
-use Rattle.laws.proofs.MapChecks.{MapPasses}
 use Rattle.laws.proofs.Alike.{Alike}
 use Rattle.laws.proofs.MapSteps.{forkWith, sizeAfter, newCount, blocksAfter, afterWrite, new-count, Framed, length-forkBytes}
 use Rattle.laws.proofs.MapSteps.{write-frame, write-count, write-changed, write-blocks, write-own}
@@ -25,7 +24,7 @@ use Rattle.laws.proofs.DirectorySteps.{written-step}
 use Rattle.laws.proofs.Refusals.{MayWrite}
 use Rattle.laws.proofs.Acceptance.{area, readable-of}
 use Rattle.laws.proofs.Bases.{based, alike-rewritten}
-use Rattle.laws.proofs.TheEntry.{theEntry, the-entry, around, beyond, passes-there}
+use Rattle.laws.proofs.TheEntry.{theEntry, the-fork, Neighbours, neighbours}
 use Rattle.laws.proofs.Rewrites.{Rewritten, rewrite-accepted}
 
 -- the count rises to the fewest blocks that hold all
@@ -58,36 +57,27 @@ module _ (image : List ℕ) (acc : Accepted image) (name : List ℕ) (fork : For
   abbrev pub left : List ℕ
   left = written f image name fork o xs changed its
 
-  same-entry : entryNamed name image ≡ theEntry image acc name there
-  same-entry = the-entry image acc name there
+  abbrev near : Neighbours image its
+  near = neighbours image acc name there fork
 
   pub is-left : change (write name fork o xs changed) image ≡ left
   unfolding change
-  is-left = ap (λ (e : List ℕ). written f image name fork o xs changed (forkOf fork e)) same-entry
+  is-left = ap (written f image name fork o xs changed) (the-fork image acc name there fork)
 
   at : o ≤ its .logical
-  at = subst (λ (e : List ℕ). o ≤ forkOf fork e .logical) same-entry (m .within)
+  at = subst (λ (g : ForkFacts). o ≤ g .logical) (the-fork image acc name there fork) (m .within)
 
   enough : newCount (mapEntry image) (A f) its o xs ≤ freeCount f
   enough =
       let need : ForkFacts → ℕ = λ g. needed (A f) (grown (g .logical) o (length xs)) (blockCount (A f) g) in
-      let p = subst (λ (e : List ℕ). need (forkOf fork e) ≤ freeCount f) same-entry (m .room) in
+      let p = subst (λ (g : ForkFacts). need g ≤ freeCount f) (the-fork image acc name there fork) (m .room) in
       omega (arith, p, new-count (mapEntry image) (A f) its o xs)
-
-  abbrev before : List ForkFacts
-  before = around image acc name there fork
-
-  abbrev behind : List ForkFacts
-  behind = beyond image acc name there fork
-
-  passes : MapPasses (mapEntry image) (N f) (A f) (freeCount f) (before ++ (its ∷ behind))
-  passes = passes-there image acc name there fork
 
   abbrev base : List ℕ
   base = afterWrite (S f) (A f) (N f) image its o xs
 
   frame : Framed (S f) (A f) all image base
-  frame = write-frame (S f) (A f) (N f) (freeCount f) image (area image acc) before behind its passes o xs at enough
+  frame = write-frame (S f) (A f) (N f) (freeCount f) image (area image acc) (near .before) (near .behind) its (near .passes) o xs at enough
 
   alike : Alike (S f) left base
   unfolding written
@@ -98,7 +88,7 @@ module _ (image : List ℕ) (acc : Accepted image) (name : List ℕ) (fork : For
     base = base;
     frame = frame;
     step = written-step image (readable-of image acc) name there fork o xs changed its (based image acc all base frame);
-    forks = write-changed (S f) (A f) (N f) (freeCount f) image (area image acc) before behind its passes o xs at enough left alike;
+    forks = write-changed (S f) (A f) (N f) (freeCount f) image (area image acc) (near .before) (near .behind) its (near .passes) o xs at enough left alike;
   }
 
   pub write-accepted : Accepted left
@@ -106,15 +96,15 @@ module _ (image : List ℕ) (acc : Accepted image) (name : List ℕ) (fork : For
 
   -- the fork's bytes, count of blocks and blocks afterwards
   pub now-bytes : forkBytes (S f) (A f) left (forkWith (A f) (sizeAfter its o xs) all) ≡ overwritten (forkBytes (S f) (A f) image its) o xs
-  now-bytes = write-own (S f) (A f) (N f) (freeCount f) image (area image acc) before behind its passes o xs at enough left alike
+  now-bytes = write-own (S f) (A f) (N f) (freeCount f) image (area image acc) (near .before) (near .behind) its (near .passes) o xs at enough left alike
 
   pub now-count : blockCount (A f) (forkWith (A f) (sizeAfter its o xs) all)
       ≡ max (blockCount (A f) its) (fewest (length (overwritten (forkBytes (S f) (A f) image its) o xs)) (A f))
   now-count =
       let ar = area image acc in
-      write-count (S f) (A f) (N f) (freeCount f) image ar before behind its passes o xs at enough
+      write-count (S f) (A f) (N f) (freeCount f) image ar (near .before) (near .behind) its (near .passes) o xs at enough
       ∙ rises (forkBytes (S f) (A f) image its) (its .logical) o xs (A f) (blockCount (A f) its)
-      (length-forkBytes (S f) (A f) (N f) (freeCount f) image ar before behind its passes) at
+      (length-forkBytes (S f) (A f) (N f) (freeCount f) image ar (near .before) (near .behind) its (near .passes)) at
 
   pub now-blocks : forkBlocks (mapEntry left) (A f) (forkWith (A f) (sizeAfter its o xs) all) ≡ all
-  now-blocks = write-blocks (S f) (A f) (N f) (freeCount f) image (area image acc) before behind its passes o xs at enough left alike
+  now-blocks = write-blocks (S f) (A f) (N f) (freeCount f) image (area image acc) (near .before) (near .behind) its (near .passes) o xs at enough left alike
