@@ -141,17 +141,19 @@ module _ {f : VolumeFacts} {image : List ℕ} {e : EntryAt} (h : FileAt f image 
 
       pub grown-fillable : Fillable l (S f) (A f) t (g .physical / A f + need)
       grown-fillable =
-          let c = fork-copyable (h .readable) (h .found) fork g q in
+          let c = fork-copyable (h .readable) (h .found) fork g q .area in
           let room : 512 * S f .0 + N f * A f ≤ length image = rw (h .readable .facts) (area image (h .readable .accepted) .room) in
           record {
             n = N f;
-            small = few-in-volume (h .readable);
-            block = c .block;
-            most = c .most;
-            whole = c .whole;
-            start = c .start;
-            low = c .low;
-            room = omega (arith, room, ap length p, length-putChain (N f) (few-in-volume (h .readable)) image (grownBlocks f image g need));
+            area = record {
+              small = few-in-volume (h .readable);
+              block = c .block;
+              most = c .most;
+              whole = c .whole;
+              start = c .start;
+              low = c .low;
+              room = omega (arith, room, ap length p, length-putChain (N f) (few-in-volume (h .readable)) image (grownBlocks f image g need));
+            };
             chain = chain .0;
           }
 

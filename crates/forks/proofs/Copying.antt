@@ -5,7 +5,7 @@ use mathlib.Core.Bool.{true}
 use mathlib.Core.List.{List, [], _∷_, _++_}
 use native.Mathlib.Omega.{arith}
 use native.Mathlib.Nat.{mul-le-mul-right, div-add-mod', div-lt-iff-lt-mul}
-use mir.Syntax.{w16, w64}
+use mir.Syntax.{w16}
 use mir.Val.{Fits}
 use lib.ListN.{length, getD, take, drop, length-drop}
 use lib.Seq.{paste, take-at, take-add, drop-drop, take-append-le, drop-append-le, drop-append-add, length-take-le}
@@ -196,7 +196,7 @@ module _ (image : List ℕ) (s : LogicalBlock) (a : ℕ) (g : ForkFacts) (h : Co
   inside : Inside s a image (forkBlocks (mapEntry image) a g)
   inside b p =
       let r = fork-block (mapEntry image) (h .n) a g b sound p in
-      (r .0, lies image s a (h .n) b (h .room) (r .0) (r .1))
+      (r .0, lies image s a (h .n) b (h .area .room) (r .0) (r .1))
 
   -- the blocks hold the fork
   holds : g .logical ≤ length (bytesOf s a image (forkBlocks (mapEntry image) a g))
@@ -228,14 +228,14 @@ module _ (image : List ℕ) (s : LogicalBlock) (a : ℕ) (g : ForkFacts) (h : Co
     fork-runs = chain-runs (mapEntry image) (h .n) (sound .chain from-start)
 
     below : offset / a < g .physical / a
-    below = div-lt-iff-lt-mul {k = a} {x = offset} {y = g .physical / a} (omega (arith, h .block)) .1
+    below = div-lt-iff-lt-mul {k = a} {x = offset} {y = g .physical / a} (omega (arith, h .area .block)) .1
         (omega (arith, div-add-mod' (g .physical) a, sound .whole from-start, sound .within from-start))
 
     pub place-small : offset / a < 640
-    place-small = omega (arith, below, chain-most (mapEntry image) (h .n) (g .physical / a) (g .start .0) fork-runs, h .small)
+    place-small = omega (arith, below, chain-most (mapEntry image) (h .n) (g .physical / a) (g .start .0) fork-runs, h .area .small)
 
     pub has-place : HasPlace (mapEntry image) (g .start .0) (offset / a)
-    has-place = record { n = h .n; k = g .physical / a; small = h .small; chain = fork-runs; within = below }
+    has-place = record { n = h .n; k = g .physical / a; small = h .area .small; chain = fork-runs; within = below }
 
     pub fork-onward : (b : ℕ) → IsPlace (mapEntry image) (g .start .0) (offset / a) b
         → Onward image s a (bytesFrom image s a g offset) b (offset % a)
@@ -243,7 +243,7 @@ module _ (image : List ℕ) (s : LogicalBlock) (a : ℕ) (g : ForkFacts) (h : Co
     fork-onward b p =
         subst (λ i. Onward image s a (drop i (bytesOf s a image (chainBlocks (mapEntry image) (g .physical / a) (g .start .0)))) b (offset % a))
         (div-add-mod' offset a)
-        (rw (p .stands (g .physical / a) below) (onward-at image s a (h .n) (h .small) (h .room) (g .physical / a) (g .start .0) (offset / a)
+        (rw (p .stands (g .physical / a) below) (onward-at image s a (h .n) (h .area .small) (h .area .room) (g .physical / a) (g .start .0) (offset / a)
         (offset % a) fork-runs below))
 
 -- ---- an accepted image
@@ -255,13 +255,15 @@ copyable image acc i l fork =
     let r = area image acc in
     record {
       n = N f;
-      small = r .few;
-      block = acc .facts .layout .large;
-      most = acc .facts .layout .small;
-      whole = omega (arith, acc .facts .layout .multiple);
-      start = omega (arith, acc .facts .layout .backup, acc .facts .few);
-      low = r .low;
-      room = r .room;
+      area = record {
+        small = r .few;
+        block = acc .facts .layout .large;
+        most = acc .facts .layout .small;
+        whole = omega (arith, acc .facts .layout .multiple);
+        start = omega (arith, acc .facts .layout .backup, acc .facts .few);
+        low = r .low;
+        room = r .room;
+      };
       good = fork-good (mapEntry image) (N f) (A f) (forkOf fork (getD (directory image) i [])) (sound-fork image acc i l fork);
     }
 
@@ -296,10 +298,7 @@ module _ (r a w n d : ℕ) (is : r ≡ min (a - w) (n - d)) (here : w < a) (more
   pub turn-whole : d + r < n → w + r ≡ a
   turn-whole h = omega arith
 
-pub from-fits : (f b w a m : ℕ) → f ≡ b → b + a ≤ m → w < a → m < 18446744073709551616 → Fits w64 (f + w)
-from-fits f b w a m e h k l = omega arith
-
-pub from-within : (f b w n a m : ℕ) → f ≡ b → b + a ≤ m → w + n ≤ a → f + w + n ≤ m
+pub from-within : (f b w n a m : ℕ) → f ≡ b + w → b + a ≤ m → w + n ≤ a → f + n ≤ m
 from-within f b w n a m e h k = omega arith
 
 pub to-within : (d n m l : ℕ) → d ≤ n → l ≡ m → n ≤ m → d ≤ l

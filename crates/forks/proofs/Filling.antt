@@ -314,7 +314,7 @@ module _ (image : List ℕ) (s : LogicalBlock) (a t k : ℕ) (h : Fillable image
       go zero c [] e = sym (content-none s a image [] offset (λ b p. absurd (omega arith)))
       go (suc k) c [] e =
           sym (content-none s a image (chainBlocks (mapEntry image) (suc k) t) offset
-          (chain-inside (mapEntry image) s a (h .n) (suc k) t image (c (omega arith)) (h .room)))
+          (chain-inside (mapEntry image) s a (h .n) (suc k) t image (c (omega arith)) (h .area .room)))
 
   module _ (some : 1 ≤ length xs) where
     fill-chain : runs (mapEntry image) (h .n) k t ≡ true
@@ -325,18 +325,18 @@ module _ (image : List ℕ) (s : LogicalBlock) (a t k : ℕ) (h : Fillable image
         positive (suc k) f = omega arith
 
     below : offset / a < k
-    below = div-lt-iff-lt-mul {k = a} {x = offset} {y = k} (omega (arith, h .block)) .1 (omega arith)
+    below = div-lt-iff-lt-mul {k = a} {x = offset} {y = k} (omega (arith, h .area .block)) .1 (omega arith)
 
     pub fill-small : offset / a < 640
-    fill-small = omega (arith, below, chain-most (mapEntry image) (h .n) k t fill-chain, h .small)
+    fill-small = omega (arith, below, chain-most (mapEntry image) (h .n) k t fill-chain, h .area .small)
 
     pub fill-place : HasPlace (mapEntry image) t (offset / a)
-    fill-place = record { n = h .n; k = k; small = h .small; chain = fill-chain; within = below }
+    fill-place = record { n = h .n; k = k; small = h .area .small; chain = fill-chain; within = below }
 
     pub fill-due : (b : ℕ) → IsPlace (mapEntry image) t (offset / a) b
         → Due image s a image b (offset % a) xs (putContent s a image (chainBlocks (mapEntry image) k t) offset xs)
     fill-due b p =
         subst (λ i. Due image s a image b (offset % a) xs (putContent s a image (chainBlocks (mapEntry image) k t) i xs))
         (div-add-mod' offset a)
-        (rw (p .stands k below) (due-at image s a (h .n) (h .small) (h .low) (h .room) k t (offset / a) (offset % a) xs fill-chain below
+        (rw (p .stands k below) (due-at image s a (h .n) (h .area .small) (h .area .low) (h .area .room) k t (offset / a) (offset % a) xs fill-chain below
         (omega (arith, div-add-mod' offset a))))

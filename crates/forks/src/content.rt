@@ -1,9 +1,10 @@
 // The bytes of a fork, block by block.
 ghost use mathlib.Core.Path.{_≡_};
 ghost use mathlib.Core.List.{_++_};
-ghost use Prim.Native.Nat.{_+_, _*_, _≤_, min};
+ghost use Prim.Native.Nat.{_+_, _*_, _%_, _≤_, _<_, min};
 ghost use lib.ListN.{length, drop};
 ghost use Rattle.model.specs.Bytes.{part};
+ghost use Rattle.model.specs.Facts.{blockByte};
 ghost use Rattle.model.specs.Calls.{forkBytes, putContent, readCount, copied};
 ghost use Rattle.model.specs.Map.{mapEntry, chainBlocks};
 ghost use Rattle.forks.specs.Content.{Copyable, Fillable};
@@ -19,6 +20,14 @@ fn smaller(a: usize, b: usize) -> usize
         return a;
     }
     b
+}
+
+// The image's byte at a place within allocation block b.
+fn byte_in(b: AllocationBlock, start: LogicalBlock, size: u32, within: usize) -> usize
+    requires { ⌜ (2 ≤ b .0) × (b .0 ≤ 641) × (size ≤ 32768) × (size % 512 ≡ 0) × (start .0 < 65536) × (within < size) ⌝ }
+    ensures { λ r. ⌜ r ≡ blockByte start size b + within ⌝ }
+{
+    b.logical(start, size).byte() + within
 }
 
 // Copies count bytes of the fork from the offset on into the buffer.
@@ -40,7 +49,7 @@ fn copy_blocks(
     let mut done = 0;
     loop {
         let n = smaller(a - within, count - done);
-        let from = b.logical(start, size).byte() + within;
+        let from = byte_in(b, start, size, within);
         copy_part(image, from, buffer, done, n);
         done += n;
         if count <= done {
@@ -95,7 +104,7 @@ pub fn fill_fork(
     let mut stored = 0;
     loop {
         let n = smaller(a - at, count - stored);
-        let to = block.logical(start, size).byte() + at;
+        let to = byte_in(block, start, size, at);
         copy_part(bytes, stored, image, to, n);
         stored += n;
         if count <= stored {

@@ -16,7 +16,7 @@ use Rattle.model.specs.Map.{mapEntry, chainBlocks}
 use Rattle.model.specs.Calls.{putContent}
 use Rattle.forks.proofs.Filling.{Due, due-block, due-lies, Partway, partway-first, partway-last, partway-next}
 use Rattle.forks.proofs.Filling.{fill-none, fill-small, fill-place, fill-due}
-use Rattle.forks.proofs.Copying.{positive, place-fits, long, multiple, turn-in-block, turn-in-count, turn-less, turn-whole, from-fits, from-within}
+use Rattle.forks.proofs.Copying.{positive, place-fits, long, multiple, turn-in-block, turn-in-count, turn-less, turn-whole, from-within}
 use Rattle.forks.proofs.Copying.{all-done}
 use Rattle.forks.proofs.content.fill_fork.Statement.{statement}
 use Rattle.forks.proofs.content.fill_fork.Tie as tie
@@ -29,22 +29,16 @@ abbrev μ-loop : tie.MeasureT-loop
 μ-loop image₀ start size blocks offset bytes count a block₀ at₀ stored₀ image block at stored = count - stored
 
 -- the image keeps its length
-still-within : (i n m : ℕ) → i ≤ n → n ≡ m → i ≤ m
-still-within i n m h e = omega arith
-
 same-long : (n m : ℕ) → n ≡ m → 2048 ≤ m → 2048 ≤ n
 same-long n m e h = omega arith
 
 -- what is known at the start
 module _ (s : tie.Start Inv-loop μ-loop) where
   size-positive : 0 < s .args .size
-  size-positive = positive _ (s .pre .0 .block)
+  size-positive = positive _ (s .pre .0 .area .block)
 
   image-long : 2048 ≤ length (now (s .args .image))
-  image-long = long _ _ _ (s .pre .0 .low) (s .pre .0 .room)
-
-  image-few : length (now (s .args .image)) < 18446744073709551616
-  image-few = omega (arith, s .good)
+  image-long = long _ _ _ (s .pre .0 .area .low) (s .pre .0 .area .room)
 
   bytes-few : Fits w64 (length (now (s .args .bytes)))
   bytes-few = omega (arith, s .good)
@@ -56,10 +50,10 @@ at-start c = c .before .before .before
 abbrev at-some : tie.At-loop Inv-loop μ-loop → tie.Else1 Inv-loop μ-loop
 at-some c = c .before .before .before
 
-abbrev at-loop : tie.After-byte Inv-loop μ-loop → tie.At-loop Inv-loop μ-loop
-at-loop c = c .before .before .before
+abbrev at-loop : tie.After-byte-in Inv-loop μ-loop → tie.At-loop Inv-loop μ-loop
+at-loop c = c .before .before
 
-abbrev at-place : tie.After-copy-part Inv-loop μ-loop → tie.After-byte Inv-loop μ-loop
+abbrev at-place : tie.After-copy-part Inv-loop μ-loop → tie.After-byte-in Inv-loop μ-loop
 at-place c = c .before .before
 
 abbrev at-copy : tie.Else2 Inv-loop μ-loop → tie.After-copy-part Inv-loop μ-loop
@@ -148,48 +142,27 @@ sub-smaller-2 c = le-of-lt (c .loop .inv .more)
 smaller-requires : tie.Need-smaller-requires Inv-loop μ-loop
 smaller-requires c κs = tt
 
-logical-requires : tie.Need-logical-requires Inv-loop μ-loop
-logical-requires c κs =
-    let h = at-start (at-some (c .before)) .pre .0 in
-    let b = numbered (c .before) in
-    (b .0, b .1, h .most, multiple _ (h .whole), h .start)
+byte-in-requires : tie.Need-byte-in-requires Inv-loop μ-loop
+byte-in-requires c κs =
+    let l = c .before in
+    let h = at-start (at-some l) .pre .0 .area in
+    (numbered l .0, numbered l .1, h .most, multiple _ (h .whole), h .start, l .loop .inv .here)
 
-byte-requires : tie.Need-byte-requires Inv-loop μ-loop
-byte-requires c κs = tt
+-- how many bytes this turn stores
+abbrev number : tie.After-byte-in Inv-loop μ-loop → ℕ
+number c = c .before .smaller .result
 
--- where the bytes of this turn belong, and how many they are
-to-block : (c : tie.After-byte Inv-loop μ-loop) → let l = at-loop c in let a = at-start (at-some l) .args in
-    c .byte .result ≡ blockByte (a .start) (a .size) (l .loop .block)
-to-block c = c .byte .ensures ∙ c .before .logical .ensures
+in-block : (c : tie.After-byte-in Inv-loop μ-loop) → let l = at-loop c in l .loop .at + number c ≤ at-start (at-some l) .args .size
+in-block c = let m = at-loop c .loop .inv in turn-in-block _ _ _ _ _ (c .before .smaller .ensures) (m .here) (m .more)
 
-abbrev number : tie.After-byte Inv-loop μ-loop → ℕ
-number c = c .before .before .smaller .result
-
-in-block : (c : tie.After-byte Inv-loop μ-loop) → let l = at-loop c in
-    l .loop .at + number c ≤ at-start (at-some l) .args .size
-in-block c = let m = at-loop c .loop .inv in turn-in-block _ _ _ _ _ (c .before .before .smaller .ensures) (m .here) (m .more)
-
-in-count : (c : tie.After-byte Inv-loop μ-loop) → let l = at-loop c in
-    l .loop .stored + number c ≤ length (now (at-start (at-some l) .args .bytes))
-in-count c = let m = at-loop c .loop .inv in turn-in-count _ _ _ _ _ (c .before .before .smaller .ensures) (m .here) (m .more)
-
-add-to : tie.Need-add-to Inv-loop μ-loop
-add-to c =
-    let l = at-loop c in
-    let m = l .loop .inv in
-    let f = at-start (at-some l) in
-    from-fits _ _ _ _ _ (to-block c) (still-within _ _ _ (lies l) (m .size)) (m .here) (image-few f)
+in-count : (c : tie.After-byte-in Inv-loop μ-loop) → let l = at-loop c in l .loop .stored + number c ≤ length (now (at-start (at-some l) .args .bytes))
+in-count c = let m = at-loop c .loop .inv in turn-in-count _ _ _ _ _ (c .before .smaller .ensures) (m .here) (m .more)
 
 copy-part-requires : tie.Need-copy-part-requires Inv-loop μ-loop
-copy-part-requires c κs =
-    let y = c .before in
-    let l = at-loop y in
-    (in-count y, from-within _ _ _ _ _ _ (to-block y) (lies l) (in-block y))
+copy-part-requires c κs = let y = c .before in (in-count y, from-within _ _ _ _ _ _ (y .byte-in .ensures) (lies (at-loop y)) (in-block y))
 
 add-stored : tie.Need-add-stored Inv-loop μ-loop
-add-stored c =
-    let y = c .before .before .before .before in
-    fits-le (in-count y) (bytes-few (at-start (at-some (at-loop y))))
+add-stored c = let y = at-place (c .before .before) in fits-le (in-count y) (bytes-few (at-start (at-some (at-loop y))))
 
 -- ---- after the store
 
@@ -201,7 +174,7 @@ after c =
     let y = at-place c in
     let l = at-loop y in
     let a = at-start (at-some l) .args in
-    c .copy-part .ensures ∙ ap (λ q. paste (l .loop .image) (q + l .loop .at) (drop (l .loop .stored) (now (a .bytes))) (number y)) (to-block y)
+    c .copy-part .ensures ∙ ap (λ q. paste (l .loop .image) q (drop (l .loop .stored) (now (a .bytes))) (number y)) (y .byte-in .ensures)
 
 same-length : tie.Need-same-length Inv-loop μ-loop
 same-length c = let k = c .before .before .before in k .copy-part .kept .1 .1 .0 ∙ at-loop (at-place k) .loop .inv .size
@@ -229,7 +202,7 @@ loop-less : tie.Need-loop-less Inv-loop μ-loop
 loop-less c =
     let y = at-place (at-copy (c .before .before)) in
     let m = at-loop y .loop .inv in
-    turn-less _ _ _ _ _ (y .before .before .smaller .ensures) (m .here) (m .more)
+    turn-less _ _ _ _ _ (y .before .smaller .ensures) (m .here) (m .more)
 
 loop-again : tie.Need-loop-again Inv-loop μ-loop
 loop-again c =
@@ -237,11 +210,11 @@ loop-again c =
     let y = at-place k in
     let l = at-loop y in
     let a = at-start (at-some l) .args in
-    let end : l .loop .at + number y ≡ a .size =
-    turn-whole _ _ _ _ _ (y .before .before .smaller .ensures) (l .loop .inv .here) (l .loop .inv .more) (c .before .before .if2 .left) in
+    let more = c .before .before .if2 .left in
+    let end = turn-whole _ _ _ _ _ (y .before .smaller .ensures) (l .loop .inv .here) (l .loop .inv .more) more in
     partway-next (now (a .image)) (a .start) (a .size) (now (a .bytes)) (l .before .block-at .result .0) (a .offset % a .size) (l .loop .block .0)
     (l .loop .at) (l .loop .stored)
-    (l .loop .image) (l .loop .inv) (number y) (c .load .result) (k .copy-part .last .1 .1 .0) end (c .before .before .if2 .left) (k .copy-part .kept .1 .1 .0)
+    (l .loop .image) (l .loop .inv) (number y) (c .load .result) (k .copy-part .last .1 .1 .0) end more (k .copy-part .kept .1 .1 .0)
     (after k) (c .load .ensures .0)
 
 pub fill-fork-spec : {M : Type 1} → statement M
@@ -259,9 +232,7 @@ fill-fork-spec =
     sub-smaller
     sub-smaller-2
     smaller-requires
-    logical-requires
-    byte-requires
-    add-to
+    byte-in-requires
     copy-part-requires
     add-stored
     same-length
