@@ -18,17 +18,31 @@ use borrow.Author.Needs.{needs}
 use Rattle.blockmap.proofs.allocate.extend.Statement.{statement}
 use Rattle.blockmap.proofs.allocate.extend.Tie as tie
 
+-- the image as it came, from where a block is needed; the start, from the lowest free block; that, from the chain's last block;
+-- the last block, from its store; the store, from the joining behind it
+abbrev came : tie.After-next-free-arg → tie.After-slice-known
+came c = c .before .before
+
+abbrev start : tie.After-next-free → tie.Start
+start c = came (c .before) .before
+
+abbrev free : tie.After-block-at → tie.After-next-free
+free c = c .before .before .before
+
+abbrev last : tie.After-store → tie.After-block-at
+last c = c .before .before
+
+abbrev put : tie.After-join-free-arg2 → tie.After-store
+put c = c .before .before .before
+
 -- a slice of bytes holds bytes
 bytes : (c : tie.After-slice-known) → Bytes (now (c .before .args .image))
 unfolding Bytes
 bytes c i = omega (arith, c .slice-known .given i)
 
 -- no block is needed: the chain stands
-unchanged : (c : tie.Then1)
-    → now (c .before .before .args .image)
-    ≡ putChain (now (c .before .before .args .image))
-    (chainBlocks (mapEntry (now (c .before .before .args .image))) (c .before .before .args .k) (c .before .before .args .s .0)
-    ++ take (c .before .before .args .need) (freeBlocks (mapEntry (now (c .before .before .args .image))) (c .before .before .args .n)))
+unchanged : (c : tie.Then1) → let a = c .before .before .args in let l = now (a .image) in
+    l ≡ putChain l (chainBlocks (mapEntry l) (a .k) (a .s .0) ++ take (a .need) (freeBlocks (mapEntry l) (a .n)))
 unchanged c =
     let a = c .before .before .args in
     let l = now (a .image) in
@@ -50,26 +64,19 @@ returns-2 c =
 
 next-free-requires : tie.Need-next-free-requires
 next-free-requires c κs =
-    let s = c .before .before .before in
+    let s = came c .before in
     let all = ap length (free-all (mapEntry (now (s .args .image))) (s .args .n)) in
     (s .pre .0, s .pre .1, omega arith, omega (arith, s .pre .3))
 
 -- the lowest free block
 module _ (c : tie.After-next-free) where
-  abbrev start : tie.Start
-  start = c .before .before .before .before
-
-  some : 1 ≤ start .args .need
+  some : 1 ≤ start c .args .need
   some = omega arith
 
-  enough : start .args .need ≤ length (freeFrom (mapEntry (now (start .args .image))) (start .args .n) (c .next-free .result .0))
+  enough : let a = start c .args in a .need ≤ length (freeFrom (mapEntry (now (a .image))) (a .n) (c .next-free .result .0))
   enough =
-      omega (
-        arith,
-        start .pre .3,
-        ap length (free-from (mapEntry (now (start .args .image))) (start .args .n) (c .next-free .result .0)
-            (c .next-free .ensures)),
-      )
+      let a = start c .args in
+      omega (arith, start c .pre .3, ap length (free-from (mapEntry (now (a .image))) (a .n) (c .next-free .result .0) (c .next-free .ensures)))
 
 join-free-requires : tie.Need-join-free-requires
 join-free-requires c κs =
@@ -83,14 +90,16 @@ same-length c = search needs
 
 returns-3 : tie.Need-returns-3
 returns-3 c =
-    let d = c .before .before .before .before .before in
+    let joined = c .before .before in
+    let none = joined .before .before in
+    let d = none .before in
     let a = start d .args in
     let l = now (a .image) in
     let e = mapEntry l in
     let f = d .next-free .ensures in
     let x = d .next-free .result .0 in
-    let q = no-chain e (a .k) (a .s .0) (take (a .need) (freeBlocks e (a .n))) (c .before .before .before .before .if3 .taken) in (
-      c .before .before .join-free .ensures ∙ ap (putChain l) (ap (take (a .need)) (sym (free-from e (a .n) x f)) ∙ sym q),
+    let q = no-chain e (a .k) (a .s .0) (take (a .need) (freeBlocks e (a .n))) (none .if3 .taken) in (
+      joined .join-free .ensures ∙ ap (putChain l) (ap (take (a .need)) (sym (free-from e (a .n) x f)) ∙ sym q),
       sym (ap firstOr0 q ∙ first-new e (a .n) x (a .need) f (some d) .1),
     )
 
@@ -104,19 +113,16 @@ block-at-requires c κs =
 
 -- the chain's last block
 module _ (c : tie.After-block-at) where
-  abbrev free : tie.After-next-free
-  free = c .before .before .before
-
-  count : start free .args .k ≡ suc (start free .args .k - 1)
+  count : let a = start (free c) .args in a .k ≡ suc (a .k - 1)
   count = omega arith
 
-  chain : runs (mapEntry (now (start free .args .image))) (start free .args .n) (suc (start free .args .k - 1)) (start free .args .s .0) ≡ true
+  chain : let a = start (free c) .args in runs (mapEntry (now (a .image))) (a .n) (suc (a .k - 1)) (a .s .0) ≡ true
   chain =
-      let a = start free .args in
-      subst (λ j. runs (mapEntry (now (a .image))) (a .n) j (a .s .0) ≡ true) count (start free .pre .2 (omega arith))
+      let s = start (free c) in
+      subst (λ j. runs (mapEntry (now (s .args .image))) (s .args .n) j (s .args .s .0) ≡ true) count (s .pre .2 (omega arith))
 
-  stands : c .block-at .result .0 ≡ at (mapEntry (now (start free .args .image))) (start free .args .s .0) (start free .args .k - 1)
-  stands = c .block-at .ensures .stands (suc (start free .args .k - 1)) (omega arith)
+  stands : let a = start (free c) .args in c .block-at .result .0 ≡ at (mapEntry (now (a .image))) (a .s .0) (a .k - 1)
+  stands = c .block-at .ensures .stands (suc (start (free c) .args .k - 1)) (omega arith)
 
 store-requires : tie.Need-store-requires
 store-requires c κs =
@@ -128,12 +134,12 @@ store-requires c κs =
 
 join-free-requires-2 : tie.Need-join-free-requires-2
 join-free-requires-2 c κs =
-    let d = c .before .before .before .before .before in
+    let d = last (put c) in
     let a = start (free d) .args in
     let p = start (free d) .pre in
     let f = free d .next-free .ensures in
     let x = free d .next-free .result .0 in
-    let st = c .before .before .before .store in
+    let st = put c .store in
     let r = ext-requires (a .n) (now (a .image)) (a .k - 1) (a .s .0) x (p .0) (p .1) (chain d) f
     (d .block-at .result .0) (st .last .0) (a .need) (stands d) (st .ensures) (p .3) in
     let big : 2048 ≤ length (st .last .0) = omega (arith, p .1, ap length (st .ensures), length-setEntry (now (a .image)) (d .block-at .result .0) x) in
@@ -144,16 +150,17 @@ same-length-2 c = search needs
 
 returns-4 : tie.Need-returns-4
 returns-4 c =
-    let d = c .before .before .before .before .before .before .before .before in
+    let joined = c .before .before in
+    let d = last (put (joined .before)) in
     let a = start (free d) .args in
     let p = start (free d) .pre in
     let f = free d .next-free .ensures in
     let x = free d .next-free .result .0 in
     let l = now (a .image) in
-    let st = c .before .before .before .before .before .before .store in (
-      c .before .before .join-free2 .ensures
+    let st = put (joined .before) .store in (
+      joined .join-free2 .ensures
           ∙ ext-leaves (a .n) l (a .k - 1) (a .s .0) x (p .0) (p .1) (chain d) f
-          (a .k) (d .block-at .result .0) (st .last .0) (a .need) (bytes (free d .before .before .before)) (some (free d)) (count d) (stands d) (st .ensures),
+          (a .k) (d .block-at .result .0) (st .last .0) (a .need) (bytes (came (free d .before))) (some (free d)) (count d) (stands d) (st .ensures),
       sym (first-old (mapEntry l) (a .k) (a .s .0) (take (a .need) (freeBlocks (mapEntry l) (a .n))) (omega arith)),
     )
 

@@ -16,6 +16,9 @@ Inv-loop image n at₀ at = (at₀ ≤ at) × (at < n + 2) × (freeFrom (mapEntr
 abbrev μ-loop : tie.MeasureT-loop
 μ-loop image n at₀ at = n + 2 - at
 
+abbrev start : tie.At-loop Inv-loop μ-loop → tie.Start Inv-loop μ-loop
+start c = c .before .before
+
 loop-holds : tie.Need-loop-holds Inv-loop μ-loop
 loop-holds c =
     let a = c .before .args in
@@ -32,13 +35,15 @@ loop-less c = omega arith
 
 loop-again : tie.Need-loop-again Inv-loop μ-loop
 loop-again c =
-    let a = c .before .before .before .before .args in
-    let at = c .before .before .loop .at in
+    let loop = c .before .before in
+    let s = start loop in
+    let a = s .args in
+    let at = loop .loop .at in
     let e = mapEntry (now (a .image)) in
     let v = c .before .load .ensures .0 in
-    let on = c .before .before .loop .inv .2 ∙ free-miss e (a .n) at (omega arith) (omega (arith, c .if1 .taken)) in
-    let s : 1 ≤ length (freeFrom e (a .n) (at + 1)) = omega (arith, ap length on, c .before .before .before .before .pre .3) in
-    (omega arith, free-below e (a .n) (at + 1) s, on)
+    let on = loop .loop .inv .2 ∙ free-miss e (a .n) at (omega arith) (omega (arith, c .if1 .taken)) in
+    let some : 1 ≤ length (freeFrom e (a .n) (at + 1)) = omega (arith, ap length on, s .pre .3) in
+    (omega arith, free-below e (a .n) (at + 1) some, on)
 
 returns : tie.Need-returns Inv-loop μ-loop
 returns c =

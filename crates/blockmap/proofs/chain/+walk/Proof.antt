@@ -24,6 +24,10 @@ walk-at t = and 2 walk-kinds.ps (is 2 walk-kinds.ps μ-walk t) walk.Pre
 abbrev walk-below : ℕ → In 2 walk-kinds.ps
 walk-below t = and 2 walk-kinds.ps (falls 2 walk-kinds.ps _<_ μ-walk t) walk.Pre
 
+-- the start, from where s is a block's number
+abbrev start : (t : ℕ) → walk-lts.Else3 (walk-below t, walk.Post) (walk-at t) walk.Post → walk-lts.Start (walk-below t, walk.Post) (walk-at t) walk.Post
+start t c = c .before .before .before
+
 walk-returns : (t : ℕ) → walk-lts.Need-returns (walk-below t, walk.Post) (walk-at t) walk.Post
 walk-returns t c =
     let a = c .before .args in
@@ -53,7 +57,8 @@ walk-element-copy-out-if4 t c = omega arith
 
 walk-returns-4 : (t : ℕ) → walk-lts.Need-returns-4 (walk-below t, walk.Post) (walk-at t) walk.Post
 walk-returns-4 t c =
-    let a = c .before .before .before .before .before .args in
+    let numbered = c .before .before in
+    let a = start t numbered .args in
     let e = entryIn (now (a .entries)) in
     let m = now (a .marks) in
     (walk-met e (a .n) m (a .k) (a .s) (omega arith) (c .if4 .taken), λ r. absurd (false≢true r))
@@ -77,7 +82,7 @@ walk-returns-5 : (t : ℕ) → walk-lts.Need-returns-5 (walk-below t, walk.Post)
 unfolding entryIn
 walk-returns-5 t c =
     let p = c .before .before .before in
-    let a = p .before .before .before .before .before .args in
+    let a = start t (p .before .before) .args in
     let e = entryIn (now (a .entries)) in
     let m = now (a .marks) in
     let j = a .k - 1 in

@@ -15,14 +15,18 @@ Inv-loop image place b₀ i₀ b i = (i ≤ place) × (b .0 ≡ at (mapEntry ima
 abbrev μ-loop : tie.MeasureT-loop
 μ-loop image place b₀ i₀ b i = place - i
 
+abbrev start : tie.At-loop Inv-loop μ-loop → tie.Start Inv-loop μ-loop
+start c = c .before .before
+
 loop-holds : tie.Need-loop-holds Inv-loop μ-loop
 loop-holds c = (omega arith, at-first (mapEntry (now (c .before .args .image))) (c .before .args .s .0))
 
 load-requires : tie.Need-load-requires Inv-loop μ-loop
 load-requires c κs =
-    let a = c .before .before .before .args in
+    let s = start (c .before) in
+    let a = s .args in
     let l = c .before .loop in
-    let h = at-inside (mapEntry (now (a .image))) (a .s .0) (a .place) (l .i) (c .before .before .before .pre .0) (l .inv .0) in
+    let h = at-inside (mapEntry (now (a .image))) (a .s .0) (a .place) (l .i) (s .pre .0) (l .inv .0) in
     omega arith
 
 add-i : tie.Need-add-i Inv-loop μ-loop
@@ -33,19 +37,20 @@ loop-less c = omega arith
 
 loop-again : tie.Need-loop-again Inv-loop μ-loop
 loop-again c =
-    let a = c .before .before .before .before .args in
+    let a = start (c .before .before) .args in
     let l = c .before .before .loop in
     let e = mapEntry (now (a .image)) in
     (omega arith, c .load .ensures .0 ∙ ap e (l .inv .1) ∙ at-next e (a .s .0) (l .i))
 
 returns : tie.Need-returns Inv-loop μ-loop
 returns c =
-    let a = c .before .before .before .args in
+    let s = start (c .before) in
+    let a = s .args in
     let l = c .before .loop in
     let e = mapEntry (now (a .image)) in
     let end : l .i ≡ a .place = omega arith in
     let here : at e (a .s .0) (a .place) ≡ l .b .0 = sym (l .inv .1 ∙ ap (at e (a .s .0)) end) in
-    subst (IsPlace e (a .s .0) (a .place)) here (is-place e (a .s .0) (a .place) (c .before .before .before .pre .0))
+    subst (IsPlace e (a .s .0) (a .place)) here (is-place e (a .s .0) (a .place) (s .pre .0))
 
 pub block-at-spec : {M : Type 1} → statement M
 block-at-spec =

@@ -23,16 +23,18 @@ loop-holds c =
     let a = c .before .args in
     (refl, freeing (a .n) (a .k) (a .s .0) (now (a .image)) (omega arith) (c .before .pre .2))
 
-module _ (c : tie.In-loop Inv-loop μ-loop) where
-  start : tie.Start Inv-loop μ-loop
-  start = c .before .before .before
+-- the start, from a turn, and the turn, from the load of its entry
+abbrev start : tie.In-loop Inv-loop μ-loop → tie.Start Inv-loop μ-loop
+start c = c .before .before .before
 
-  block : (2 ≤ c .before .loop .b) × (c .before .loop .b ≤ 641)
-  unfolding start
-  block =
-      let l = c .before .loop in
-      let h = free-block (start .args .n) (l .b) (l .left) (l .image) _ (omega arith) (l .inv .1) in
-      omega arith
+abbrev turn : tie.After-load Inv-loop μ-loop → tie.In-loop Inv-loop μ-loop
+turn c = c .before .before
+
+block : (c : tie.In-loop Inv-loop μ-loop) → (2 ≤ c .before .loop .b) × (c .before .loop .b ≤ 641)
+block c =
+    let l = c .before .loop in
+    let h = free-block (start c .args .n) (l .b) (l .left) (l .image) _ (omega arith) (l .inv .1) in
+    omega arith
 
 load-requires : tie.Need-load-requires Inv-loop μ-loop
 load-requires c κs =
@@ -42,8 +44,9 @@ load-requires c κs =
 
 store-requires : tie.Need-store-requires Inv-loop μ-loop
 store-requires c κs =
-    let f = c .before .before .before .before .loop .inv .1 .big in
-    let b = block (c .before .before .before) in
+    let p = turn (c .before) in
+    let f = p .before .loop .inv .1 .big in
+    let b = block p in
     omega arith
 
 sub-left : tie.Need-sub-left Inv-loop μ-loop
@@ -54,14 +57,15 @@ loop-less c = omega arith
 
 loop-again : tie.Need-loop-again Inv-loop μ-loop
 loop-again c =
-    let p = c .before .before .before .before .before .before in
-    let a = p .before .before .before .args in
+    let put = c .before .before in
+    let read = put .before .before in
+    let p = turn read in
+    let a = start p .args in
     let l = p .before .loop in
-    let st = c .before .before .store .ensures in (
+    let st = put .store .ensures in (
       ap length st ∙ length-setEntry (l .image) (l .b) 0 ∙ l .inv .0,
       free-next (a .n) (l .b) (l .left) (l .image) (putFree (now (a .image)) (chainBlocks (mapEntry (now (a .image))) (a .k) (a .s .0)))
-          (c .before .before .store .last .0) (c .before .before .before .before .load .result)
-          st (c .before .before .before .before .load .ensures .0) (omega arith) (omega arith) (l .inv .1),
+          (put .store .last .0) (read .load .result) st (read .load .ensures .0) (omega arith) (omega arith) (l .inv .1),
     )
 
 same-length : tie.Need-same-length Inv-loop μ-loop

@@ -14,6 +14,23 @@ use borrow.Author.Needs.{needs}
 use Rattle.blockmap.proofs.free.shorten.Statement.{statement}
 use Rattle.blockmap.proofs.free.shorten.Tie as tie
 
+-- the image as it came, from where blocks stay; the start, from the last of them; that, from the load of its entry; the load, from
+-- the store; the store, from the freeing behind it
+abbrev came : tie.After-block-at-arg → tie.After-slice-known
+came c = c .before .before .before
+
+abbrev start : tie.After-block-at → tie.Start
+start c = came (c .before) .before
+
+abbrev at-last : tie.After-load → tie.After-block-at
+at-last c = c .before .before
+
+abbrev at-load : tie.After-store → tie.After-load
+at-load c = c .before .before
+
+abbrev at-store : tie.After-free-chain-arg2 → tie.After-store
+at-store c = c .before .before .before
+
 -- a slice of bytes holds bytes
 bytes : (c : tie.After-slice-known) → Bytes (now (c .before .args .image))
 unfolding Bytes
@@ -43,42 +60,32 @@ sub-block-at c = search needs
 
 block-at-requires : tie.Need-block-at-requires
 block-at-requires c κs =
-    let s = c .before .before .before .before in
+    let s = came c .before in
     (record { n = s .args .n; k = s .args .k; small = omega arith; chain = s .pre .2 (omega arith); within = omega arith }, s .pre .1)
 
 -- the last block that stays
 module _ (c : tie.After-block-at) where
-  abbrev start : tie.Start
-  start = c .before .before .before .before .before
-
-  within : start .args .keep - 1 < start .args .k
+  within : let a = start c .args in a .keep - 1 < a .k
   within = omega arith
 
-  chain : runs (mapEntry (now (start .args .image))) (start .args .n) (start .args .k) (start .args .s .0) ≡ true
-  chain = start .pre .2 (omega arith)
+  chain : let a = start c .args in runs (mapEntry (now (a .image))) (a .n) (a .k) (a .s .0) ≡ true
+  chain = start c .pre .2 (omega arith)
 
-  stands : c .block-at .result .0 ≡ at (mapEntry (now (start .args .image))) (start .args .s .0) (start .args .keep - 1)
-  stands = c .block-at .ensures .stands (suc (start .args .keep - 1)) (omega arith)
+  stands : let a = start c .args in c .block-at .result .0 ≡ at (mapEntry (now (a .image))) (a .s .0) (a .keep - 1)
+  stands = c .block-at .ensures .stands (suc (start c .args .keep - 1)) (omega arith)
 
   block : (2 ≤ c .block-at .result .0) × (c .block-at .result .0 ≤ 641)
-  block = (c .block-at .ensures .low, omega (arith, c .block-at .ensures .high (start .args .n) (start .args .k) chain within))
+  block = let a = start c .args in (c .block-at .ensures .low, omega (arith, c .block-at .ensures .high (a .n) (a .k) chain within))
 
-  count : start .args .keep ≡ suc (start .args .keep - 1)
+  count : let a = start c .args in a .keep ≡ suc (a .keep - 1)
   count = omega arith
-
--- it, from the load of its entry, and the load from the store
-abbrev at-last : tie.After-load → tie.After-block-at
-at-last c = c .before .before
-
-abbrev at-load : tie.After-store → tie.After-load
-at-load c = c .before .before
 
 load-requires : tie.Need-load-requires
 load-requires c κs = let b = block (c .before) in (b .0, b .1, start (c .before) .pre .1)
 
 store-requires : tie.Need-store-requires
 store-requires c κs =
-    let d = c .before .before .before in
+    let d = at-last (c .before) in
     let b = block d in
     (b .0, b .1, start d .pre .1, omega arith)
 
@@ -87,18 +94,15 @@ sub-free-chain c = search needs
 
 free-chain-requires-2 : tie.Need-free-chain-requires-2
 free-chain-requires-2 c κs =
-    let put = c .before .before .before in
+    let put = at-store c in
     let read = at-load put in
     let d = at-last read in
     let a = start d .args in
-    let l = now (a .image) in
-    let p = start d .pre in
-    let st = put .store in
-    let ld = read .load in (
+    let p = start d .pre in (
       omega arith,
-      omega (arith, p .1, ap length (st .ensures), length-setEntry l (d .block-at .result .0) 1),
-      λ _. rest-runs (a .n) l (a .k) (a .s .0) (a .keep - 1) (p .0) (p .1) (chain d) (within d)
-          (a .keep) (d .block-at .result .0) (st .last .0) (ld .result) (count d) (stands d) (st .ensures) (ld .ensures .0),
+      omega (arith, p .1, ap length (put .store .ensures), length-setEntry (now (a .image)) (d .block-at .result .0) 1),
+      λ _. rest-runs (a .n) (now (a .image)) (a .k) (a .s .0) (a .keep - 1) (p .0) (p .1) (chain d) (within d) (a .keep) (d .block-at .result .0)
+          (put .store .last .0) (read .load .result) (count d) (stands d) (put .store .ensures) (read .load .ensures .0),
     )
 
 same-length-2 : tie.Need-same-length-2
@@ -107,18 +111,14 @@ same-length-2 c = search needs
 returns-3 : tie.Need-returns-3
 returns-3 c =
     let freed = c .before .before in
-    let put = freed .before .before .before .before in
+    let put = at-store (freed .before) in
     let read = at-load put in
     let d = at-last read in
     let a = start d .args in
-    let l = now (a .image) in
-    let p = start d .pre in
-    let st = put .store in
-    let ld = read .load in
     freed .free-chain2 .ensures
-    ∙ short-leaves (a .n) l (a .k) (a .s .0) (a .keep - 1) (p .0) (p .1) (chain d) (within d)
-    (a .keep) (d .block-at .result .0) (st .last .0) (ld .result) (bytes (d .before .before .before .before)) (count d) (stands d) (st .ensures)
-    (ld .ensures .0)
+    ∙ short-leaves (a .n) (now (a .image)) (a .k) (a .s .0) (a .keep - 1) (start d .pre .0) (start d .pre .1) (chain d) (within d) (a .keep)
+    (d .block-at .result .0) (put .store .last .0) (read .load .result) (bytes (came (d .before))) (count d) (stands d) (put .store .ensures)
+    (read .load .ensures .0)
 
 pub shorten-spec : {M : Type 1} → statement M
 shorten-spec =

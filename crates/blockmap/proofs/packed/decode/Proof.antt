@@ -18,6 +18,10 @@ Inv-loop image n entries₀ end at₀ b₀ entries at b =
 abbrev μ-loop : tie.MeasureT-loop
 μ-loop image n entries₀ end at₀ b₀ entries at b = n + 3 - b
 
+-- the loop, from a pair's first entry
+abbrev at-loop : tie.After-join-even Inv-loop μ-loop → tie.At-loop Inv-loop μ-loop
+at-loop c = c .before .before .before .before
+
 add-end : tie.Need-add-end Inv-loop μ-loop
 add-end c = omega arith
 
@@ -72,7 +76,7 @@ loop-less c = omega arith
 loop-again : tie.Need-loop-again Inv-loop μ-loop
 loop-again c =
     let pair = c .before .before in
-    let at = pair .before .before .before .before in
+    let at = at-loop pair in
     let l = at .loop in
     let image = now (at .before .before .args .image) in
     let v = pair .join-even .ensures .0 ∙ first-entry image (l .b) (l .at) (l .inv .0) (l .inv .1) (l .inv .3) in

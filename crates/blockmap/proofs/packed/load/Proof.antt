@@ -24,19 +24,26 @@ join-even-requires c κs = search needs
 join-odd-requires : tie.Need-join-odd-requires
 join-odd-requires c κs = search needs
 
+-- the entry's place, from where its parity is asked, and the start, from there
+abbrev at-byte : tie.After-shared-slice-known3 → tie.After-entry-byte
+at-byte c = c .before .before
+
+abbrev start : tie.After-entry-byte → tie.Start
+start c = c .before .before
+
 returns : tie.Need-returns
 unfolding mapEntry joined
 returns c =
-    let b = c .before .before .before .before .before .before .args .b .0 in
-    let even = even-place b (omega arith) (c .before .if1 .taken) in
-    rw (even, ← c .before .before .before .before .entry-byte .ensures) (c .join-even .ensures)
+    let place = at-byte (c .before .before) in
+    let even = even-place (start place .args .b .0) (omega arith) (c .before .if1 .taken) in
+    rw (even, ← place .entry-byte .ensures) (c .join-even .ensures)
 
 returns-2 : tie.Need-returns-2
 unfolding mapEntry joined
 returns-2 c =
-    let b = c .before .before .before .before .before .before .args .b .0 in
-    let odd = odd-place b (omega arith) (c .before .if1 .left) in
-    rw (odd, ← c .before .before .before .before .entry-byte .ensures) (c .join-odd .ensures)
+    let place = at-byte (c .before .before) in
+    let odd = odd-place (start place .args .b .0) (omega arith) (c .before .if1 .left) in
+    rw (odd, ← place .entry-byte .ensures) (c .join-odd .ensures)
 
 pub load-spec : {M : Type 1} → statement M
 load-spec =

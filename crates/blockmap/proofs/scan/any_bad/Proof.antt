@@ -30,6 +30,10 @@ Inv-loop entries n end found₀ b₀ found b = (2 ≤ b) × (b ≤ n + 2) × Fou
 abbrev μ-loop : tie.MeasureT-loop
 μ-loop entries n end found₀ b₀ found b = n + 2 - b
 
+-- the loop, from where a block's entry is sorted
+abbrev at-loop : tie.After-sort-value Inv-loop μ-loop → tie.At-loop Inv-loop μ-loop
+at-loop c = c .before .before .before
+
 add-end : tie.Need-add-end Inv-loop μ-loop
 add-end c = omega arith
 
@@ -67,7 +71,7 @@ loop-less c = omega arith
 -- what the sort says of the block, and what it means for those left
 module _ (c : tie.After-sort-value Inv-loop μ-loop) (found : Bool) where
   abbrev at : tie.At-loop Inv-loop μ-loop
-  at = c .before .before .before
+  at = at-loop c
 
   abbrev entries : List ℕ
   entries = now (at .before .args .entries)
@@ -88,7 +92,7 @@ module _ (c : tie.After-sort-value Inv-loop μ-loop) (found : Bool) where
 
 -- the block is passed, by each way
 passed : (c : tie.At-match-came Inv-loop μ-loop)
-    → let at = c .before .before .before .before in Found (now (at .before .args .entries)) (at .before .args .n) (c .match .found) (at .loop .b + 1)
+    → let at = at-loop (c .before) in Found (now (at .before .args .entries)) (at .before .args .n) (c .match .found) (at .loop .b + 1)
 unfolding isBad
 passed c =
     ⊎-elim (λ w. hit (c .before) (c .match .found) (ap isBad (w .1 .given .1)) (w .2))

@@ -27,6 +27,10 @@ Inv-loop entries n marks end found₀ b₀ found b =
 abbrev μ-loop : tie.MeasureT-loop
 μ-loop entries n marks end found₀ b₀ found b = n + 2 - b
 
+-- the loop, from where a block is tested
+abbrev at-loop : tie.After-is-lost Inv-loop μ-loop → tie.At-loop Inv-loop μ-loop
+at-loop c = c .before .before .before .before
+
 add-end : tie.Need-add-end Inv-loop μ-loop
 add-end c = omega arith
 
@@ -55,7 +59,7 @@ loop-less c = omega arith
 loop-again : tie.Need-loop-again Inv-loop μ-loop
 unfolding entryIn
 loop-again c =
-    let at = c .before .before .before .before in
+    let at = at-loop c in
     let a = at .before .args in
     let p = lost (now (a .entries)) (now (a .marks)) in
     let l = at .loop in (

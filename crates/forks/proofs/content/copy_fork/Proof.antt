@@ -8,6 +8,13 @@ use Rattle.forks.proofs.Copying.{copied-fork}
 use Rattle.forks.proofs.content.copy_fork.Statement.{statement}
 use Rattle.forks.proofs.content.copy_fork.Tie as tie
 
+-- the start, from the count, and the count, from the copy
+abbrev start : tie.After-smaller → tie.Start
+start c = c .before .before .before .before
+
+abbrev count : tie.After-copy-blocks → tie.After-smaller
+count c = c .before .before .before
+
 cast-smaller : tie.Need-cast-smaller
 cast-smaller c = search needs
 
@@ -17,14 +24,14 @@ sub-smaller c = search needs
 smaller-requires : tie.Need-smaller-requires
 smaller-requires c κs = search needs
 
-count-is : (c : tie.After-smaller) → let a = c .before .before .before .before .args in
+count-is : (c : tie.After-smaller) → let a = start c .args in
     c .smaller .result ≡ readCount (length (now (a .buffer))) (a .g .logical) (a .offset)
 unfolding readCount
 count-is c = c .smaller .ensures
 
 returns : tie.Need-returns
 returns c =
-    let f = c .before .before .before .before .before in
+    let f = start (c .before) in
     let a = f .args in
     let none = sym (c .if1 .taken) ∙ count-is (c .before) in
     (none, copied-fork (now (a .image)) (a .start) (a .size) (a .g) (f .pre .0) (a .offset) 0 (now (a .buffer)) none)
@@ -37,12 +44,13 @@ same-length c = search needs
 
 returns-2 : tie.Need-returns-2
 returns-2 c =
-    let k = c .before .before .before .before .before in
-    let f = k .before .before .before .before in
+    let copy = c .before .before in
+    let k = count copy in
+    let f = start k in
     let a = f .args in
     let n = k .smaller .result in (
       count-is k,
-      c .before .before .copy-blocks .ensures
+      copy .copy-blocks .ensures
           ∙ copied-fork (now (a .image)) (a .start) (a .size) (a .g) (f .pre .0) (a .offset) n (now (a .buffer)) (count-is k),
     )
 

@@ -90,11 +90,15 @@ be32-at-requires-5 c κs = within (start (date (directory (c .before)))) _ tt
 be16-at-requires-8 : tie.Need-be16-at-requires-8
 be16-at-requires-8 c κs = within (start (date (directory (c .before .before)))) _ tt
 
+-- and the clump size, from the free count
+abbrev clump : tie.After-be16-at8 → tie.After-be32-at4
+clump c = c .before .before .before
+
 shared-slice-read-t24 : tie.Need-shared-slice-read-t24
-shared-slice-read-t24 c = within (start (date (directory (c .before .before .before .before)))) _ tt
+shared-slice-read-t24 c = within (start (date (directory (clump (c .before))))) _ tt
 
 name-at-requires : tie.Need-name-at-requires
-name-at-requires c κs = within (start (date (directory (c .before .before .before .before)))) _ tt
+name-at-requires c κs = within (start (date (directory (clump (c .before))))) _ tt
 
 returns : tie.Need-returns
 unfolding factsOf

@@ -16,6 +16,16 @@ Inv-loop image from buffer₀ to n i₀ buffer i =
 abbrev μ-loop : tie.MeasureT-loop
 μ-loop image from buffer₀ to n i₀ buffer i = n - i
 
+-- the start, from the loop; the loop, from a turn's bytes and from the last ones
+abbrev start : tie.At-loop Inv-loop μ-loop → tie.Start Inv-loop μ-loop
+start c = c .before .before .before
+
+abbrev turn : tie.After-move-bytes Inv-loop μ-loop → tie.At-loop Inv-loop μ-loop
+turn c = c .before .before .before
+
+abbrev end : tie.After-move-bytes2 Inv-loop μ-loop → tie.At-loop Inv-loop μ-loop
+end c = c .before .before .before
+
 loop-holds : tie.Need-loop-holds Inv-loop μ-loop
 loop-holds c = let a = c .before .before .args in (omega arith, refl, paste-zero (now (a .buffer)) (a .to) (drop (a .from) (now (a .image))))
 
@@ -40,9 +50,8 @@ loop-less c = omega arith
 loop-again : tie.Need-loop-again Inv-loop μ-loop
 loop-again c =
     let moved = c .before .before in
-    let at = moved .before .before .before in
-    let a = at .before .before .before .args in
-    let l = at .loop in (
+    let a = start (turn moved) .args in
+    let l = turn moved .loop in (
       omega arith,
       moved .move-bytes .kept .1 .1 .0 ∙ l .inv .1,
       moved .move-bytes .ensures
@@ -62,18 +71,17 @@ move-bytes-requires-2 : tie.Need-move-bytes-requires-2 Inv-loop μ-loop
 move-bytes-requires-2 c κs = (omega arith, omega arith, omega arith)
 
 same-length : tie.Need-same-length Inv-loop μ-loop
-same-length c = let moved = c .before .before in moved .move-bytes2 .kept .1 .1 .0 ∙ moved .before .before .before .loop .inv .1
+same-length c = let moved = c .before .before in moved .move-bytes2 .kept .1 .1 .0 ∙ end moved .loop .inv .1
 
 returns : tie.Need-returns Inv-loop μ-loop
 returns c =
     let moved = c .before .before in
-    let at = moved .before .before .before in
-    let a = at .before .before .before .args in
-    let l = at .loop in
-    let end : l .i + (a .n - l .i) ≡ a .n = omega arith in
+    let a = start (end moved) .args in
+    let l = end moved .loop in
+    let all : l .i + (a .n - l .i) ≡ a .n = omega arith in
     moved .move-bytes2 .ensures
     ∙ copy-more (now (a .buffer)) (now (a .image)) (l .buffer) (a .to) (a .from) (l .i) (a .n - l .i) (omega arith) (omega arith) (l .inv .2)
-    ∙ ap (paste (now (a .buffer)) (a .to) (drop (a .from) (now (a .image)))) end
+    ∙ ap (paste (now (a .buffer)) (a .to) (drop (a .from) (now (a .image)))) all
 
 pub copy-part-spec : {M : Type 1} → statement M
 copy-part-spec =

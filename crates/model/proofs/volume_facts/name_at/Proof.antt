@@ -8,6 +8,9 @@ use borrow.Author.Needs.{needs}
 use Rattle.model.proofs.volume_facts.name_at.Statement.{statement}
 use Rattle.model.proofs.volume_facts.name_at.Tie as tie
 
+abbrev start : tie.After-copy-part → tie.Start
+start c = c .before .before .before
+
 slice-aggregate-copy-part : tie.Need-slice-aggregate-copy-part
 slice-aggregate-copy-part c = search needs
 
@@ -16,7 +19,7 @@ copy-part-requires c κs = search needs
 
 returns : tie.Need-returns
 returns c =
-    let a = c .before .before .before .before .args in
+    let a = start (c .before) .args in
     c .before .copy-part .ensures ∙ paste-whole (zeros 27) (drop (a .at) (now (a .s)))
 
 pub name-at-spec : {M : Type 1} → statement M
