@@ -284,19 +284,15 @@ long s n m h k = omega arith
 pub multiple : (a : ℕ) → a / 512 * 512 ≡ a → a % 512 ≡ 0
 multiple a h = omega arith
 
--- r bytes in a turn, at place w of a bytes, where d of n are done
-module _ (r a w n d : ℕ) (is : r ≡ min (a - w) (n - d)) (here : w < a) (more : d < n) where
-  pub turn-in-block : w + r ≤ a
-  turn-in-block = omega arith
+-- r bytes in a turn, at place w of a bytes, where d of n are done: they end within the block, and at its end where more are due
+pub record Turn (r a w n d : ℕ) : Type 0 where
+  pub in-block : w + r ≤ a
+  pub in-count : d + r ≤ n
+  pub less : n - (d + r) < n - d
+  pub whole : d + r < n → w + r ≡ a
 
-  pub turn-in-count : d + r ≤ n
-  turn-in-count = omega arith
-
-  pub turn-less : n - (d + r) < n - d
-  turn-less = omega arith
-
-  pub turn-whole : d + r < n → w + r ≡ a
-  turn-whole h = omega arith
+pub a-turn : (r a w n d : ℕ) → r ≡ min (a - w) (n - d) → w < a → d < n → Turn r a w n d
+a-turn r a w n d is here more = record { in-block = omega arith; in-count = omega arith; less = omega arith; whole = λ h. omega arith }
 
 pub from-within : (f b w n a m : ℕ) → f ≡ b + w → b + a ≤ m → w + n ≤ a → f + n ≤ m
 from-within f b w n a m e h k = omega arith

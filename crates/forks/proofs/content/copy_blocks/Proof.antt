@@ -11,7 +11,7 @@ use lib.Seq.{paste}
 use Rattle.model.specs.Facts.{blockByte}
 use Rattle.forks.proofs.Copying.{Onward, onward-block, onward-lies, Midway, midway-first, midway-copied, midway-next, bytesFrom}
 use Rattle.forks.proofs.Copying.{fork-enough, fork-part, place-small, has-place, fork-onward}
-use Rattle.forks.proofs.Copying.{positive, place-fits, long, multiple, turn-in-block, turn-in-count, turn-less, turn-whole, from-within}
+use Rattle.forks.proofs.Copying.{positive, place-fits, long, multiple, Turn, a-turn, from-within}
 use Rattle.forks.proofs.Copying.{all-done, before-all, to-within}
 use Rattle.forks.proofs.content.copy_blocks.Statement.{statement}
 use Rattle.forks.proofs.content.copy_blocks.Tie as tie
@@ -131,20 +131,18 @@ byte-in-requires c κs =
 abbrev number : tie.After-byte-in Inv-loop μ-loop → ℕ
 number c = c .before .smaller .result
 
-in-block : (c : tie.After-byte-in Inv-loop μ-loop) → let l = at-loop c in l .loop .within + number c ≤ at-entry l .args .size
-in-block c = let m = at-loop c .loop .inv in turn-in-block _ _ _ _ _ (c .before .smaller .ensures) (m .here) (m .more)
-
-in-count : (c : tie.After-byte-in Inv-loop μ-loop) → let l = at-loop c in l .loop .done + number c ≤ at-entry l .args .count
-in-count c = let m = at-loop c .loop .inv in turn-in-count _ _ _ _ _ (c .before .smaller .ensures) (m .here) (m .more)
+turn : (c : tie.After-byte-in Inv-loop μ-loop) → let l = at-loop c in let a = at-entry l .args in
+    Turn (number c) (a .size) (l .loop .within) (a .count) (l .loop .done)
+turn c = let m = at-loop c .loop .inv in a-turn _ _ _ _ _ (c .before .smaller .ensures) (m .here) (m .more)
 
 copy-part-requires : tie.Need-copy-part-requires Inv-loop μ-loop
 copy-part-requires c κs =
     let y = c .before in
     let l = at-loop y in
-    (from-within _ _ _ _ _ _ (y .byte-in .ensures) (lies l) (in-block y), to-within _ _ _ _ (in-count y) (l .loop .inv .size) (at-entry l .pre .3))
+    (from-within _ _ _ _ _ _ (y .byte-in .ensures) (lies l) (turn y .in-block), to-within _ _ _ _ (turn y .in-count) (l .loop .inv .size) (at-entry l .pre .3))
 
 add-done : tie.Need-add-done Inv-loop μ-loop
-add-done c = let y = at-place (at-copy c) in fits-le (in-count y) (at-entry (at-loop y) .fits .count)
+add-done c = let y = at-place (at-copy c) in fits-le (turn y .in-count) (at-entry (at-loop y) .fits .count)
 
 -- ---- after the copy
 
@@ -167,10 +165,11 @@ returns c =
     let f = at-entry l in
     let a = f .args in
     let xs = due l in
-    let end : l .loop .done + number y ≡ a .count = all-done _ _ (in-count y) (c .if1 .taken) in
+    let end : l .loop .done + number y ≡ a .count = all-done _ _ (turn y .in-count) (c .if1 .taken) in
     stored k
     ∙ midway-copied (now (a .image)) (a .start) (a .size) (a .count) (l .before .block-at .result .0) (a .offset % a .size) (a .buffer .now)
-    (l .loop .b .0) (l .loop .within) (l .loop .done) (l .loop .buffer) (l .loop .inv) (f .pre .3) (number y) (in-block y) (in-count y) xs (begins l) (enough l)
+    (l .loop .b .0) (l .loop .within) (l .loop .done) (l .loop .buffer) (l .loop .inv) (f .pre .3) (number y)
+    (turn y .in-block) (turn y .in-count) xs (begins l) (enough l)
     ∙ ap (λ i. take i xs ++ drop i (a .buffer .now)) end
     ∙ ap (λ x. x ++ drop (a .count) (a .buffer .now)) (fork-part (now (a .image)) (a .start) (a .size) (a .g) (f .pre .0) (a .offset) (a .count) (f .pre .2))
 
@@ -178,10 +177,7 @@ load-requires : tie.Need-load-requires Inv-loop μ-loop
 load-requires c κs = let l = at-loop (at-place (at-copy (c .before))) in (block l .0, block l .1, image-long (at-entry l))
 
 loop-less : tie.Need-loop-less Inv-loop μ-loop
-loop-less c =
-    let y = at-place (at-copy (c .before .before)) in
-    let m = at-loop y .loop .inv in
-    turn-less _ _ _ _ _ (y .before .smaller .ensures) (m .here) (m .more)
+loop-less c = turn (at-place (at-copy (c .before .before))) .less
 
 loop-again : tie.Need-loop-again Inv-loop μ-loop
 loop-again c =
@@ -191,10 +187,9 @@ loop-again c =
     let f = at-entry l in
     let a = f .args in
     let more = c .before .if1 .left in
-    let end = turn-whole _ _ _ _ _ (y .before .smaller .ensures) (l .loop .inv .here) (l .loop .inv .more) more in
     midway-next (now (a .image)) (a .start) (a .size) (a .count) (l .before .block-at .result .0) (a .offset % a .size) (a .buffer .now)
     (l .loop .b .0) (l .loop .within) (l .loop .done) (l .loop .buffer) (l .loop .inv) (f .pre .3) (number y) (c .load .result)
-    (k .copy-part .last .1 .1 .0) end more (k .copy-part .kept .1 .1 .0) (stored k) (c .load .ensures .0)
+    (k .copy-part .last .1 .1 .0) (turn y .whole more) more (k .copy-part .kept .1 .1 .0) (stored k) (c .load .ensures .0)
 
 pub copy-blocks-spec : {M : Type 1} → statement M
 copy-blocks-spec =

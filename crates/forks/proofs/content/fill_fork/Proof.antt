@@ -16,7 +16,7 @@ use Rattle.model.specs.Map.{mapEntry, chainBlocks}
 use Rattle.model.specs.Calls.{putContent}
 use Rattle.forks.proofs.Filling.{Due, due-block, due-lies, Partway, partway-first, partway-last, partway-next}
 use Rattle.forks.proofs.Filling.{fill-none, fill-small, fill-place, fill-due}
-use Rattle.forks.proofs.Copying.{positive, place-fits, long, multiple, turn-in-block, turn-in-count, turn-less, turn-whole, from-within}
+use Rattle.forks.proofs.Copying.{positive, place-fits, long, multiple, Turn, a-turn, from-within}
 use Rattle.forks.proofs.Copying.{all-done}
 use Rattle.forks.proofs.content.fill_fork.Statement.{statement}
 use Rattle.forks.proofs.content.fill_fork.Tie as tie
@@ -152,17 +152,15 @@ byte-in-requires c κs =
 abbrev number : tie.After-byte-in Inv-loop μ-loop → ℕ
 number c = c .before .smaller .result
 
-in-block : (c : tie.After-byte-in Inv-loop μ-loop) → let l = at-loop c in l .loop .at + number c ≤ at-start (at-some l) .args .size
-in-block c = let m = at-loop c .loop .inv in turn-in-block _ _ _ _ _ (c .before .smaller .ensures) (m .here) (m .more)
-
-in-count : (c : tie.After-byte-in Inv-loop μ-loop) → let l = at-loop c in l .loop .stored + number c ≤ length (now (at-start (at-some l) .args .bytes))
-in-count c = let m = at-loop c .loop .inv in turn-in-count _ _ _ _ _ (c .before .smaller .ensures) (m .here) (m .more)
+turn : (c : tie.After-byte-in Inv-loop μ-loop) → let l = at-loop c in let a = at-start (at-some l) .args in
+    Turn (number c) (a .size) (l .loop .at) (length (now (a .bytes))) (l .loop .stored)
+turn c = let m = at-loop c .loop .inv in a-turn _ _ _ _ _ (c .before .smaller .ensures) (m .here) (m .more)
 
 copy-part-requires : tie.Need-copy-part-requires Inv-loop μ-loop
-copy-part-requires c κs = let y = c .before in (in-count y, from-within _ _ _ _ _ _ (y .byte-in .ensures) (lies (at-loop y)) (in-block y))
+copy-part-requires c κs = let y = c .before in (turn y .in-count, from-within _ _ _ _ _ _ (y .byte-in .ensures) (lies (at-loop y)) (turn y .in-block))
 
 add-stored : tie.Need-add-stored Inv-loop μ-loop
-add-stored c = let y = at-place (c .before .before) in fits-le (in-count y) (bytes-few (at-start (at-some (at-loop y))))
+add-stored c = let y = at-place (c .before .before) in fits-le (turn y .in-count) (bytes-few (at-start (at-some (at-loop y))))
 
 -- ---- after the store
 
@@ -185,11 +183,11 @@ returns-2 c =
     let y = at-place k in
     let l = at-loop y in
     let a = at-start (at-some l) .args in
-    let end : l .loop .stored + number y ≡ length (now (a .bytes)) = all-done _ _ (in-count y) (c .if2 .taken) in
+    let end : l .loop .stored + number y ≡ length (now (a .bytes)) = all-done _ _ (turn y .in-count) (c .if2 .taken) in
     after k
     ∙ partway-last (now (a .image)) (a .start) (a .size) (now (a .bytes)) (l .before .block-at .result .0) (a .offset % a .size) (l .loop .block .0)
     (l .loop .at) (l .loop .stored)
-    (l .loop .image) (l .loop .inv) (number y) (in-block y) end (filled l) (begins l)
+    (l .loop .image) (l .loop .inv) (number y) (turn y .in-block) end (filled l) (begins l)
 
 load-requires : tie.Need-load-requires Inv-loop μ-loop
 load-requires c κs =
@@ -199,10 +197,7 @@ load-requires c κs =
     (b .0, b .1, same-long _ _ (k .copy-part .kept .1 .1 .0 ∙ l .loop .inv .size) (image-long (at-start (at-some l))))
 
 loop-less : tie.Need-loop-less Inv-loop μ-loop
-loop-less c =
-    let y = at-place (at-copy (c .before .before)) in
-    let m = at-loop y .loop .inv in
-    turn-less _ _ _ _ _ (y .before .smaller .ensures) (m .here) (m .more)
+loop-less c = turn (at-place (at-copy (c .before .before))) .less
 
 loop-again : tie.Need-loop-again Inv-loop μ-loop
 loop-again c =
@@ -211,10 +206,9 @@ loop-again c =
     let l = at-loop y in
     let a = at-start (at-some l) .args in
     let more = c .before .before .if2 .left in
-    let end = turn-whole _ _ _ _ _ (y .before .smaller .ensures) (l .loop .inv .here) (l .loop .inv .more) more in
     partway-next (now (a .image)) (a .start) (a .size) (now (a .bytes)) (l .before .block-at .result .0) (a .offset % a .size) (l .loop .block .0)
     (l .loop .at) (l .loop .stored)
-    (l .loop .image) (l .loop .inv) (number y) (c .load .result) (k .copy-part .last .1 .1 .0) end more (k .copy-part .kept .1 .1 .0)
+    (l .loop .image) (l .loop .inv) (number y) (c .load .result) (k .copy-part .last .1 .1 .0) (turn y .whole more) more (k .copy-part .kept .1 .1 .0)
     (after k) (c .load .ensures .0)
 
 pub fill-fork-spec : {M : Type 1} → statement M
