@@ -31,12 +31,20 @@ any-clash d (e ∷ es) = rw (any-clash d es) (regroup (sameNumbers d e) (sameNam
 unfoldable pub allDiffer : List (List ℕ) → Bool
 allDiffer es = distinct sameNumbers es && distinct sameNames es
 
-pub differ-more : (d : List ℕ) (es : List (List ℕ)) → allDiffer (d ∷ es) ≡ (not (any (clash d) es) && allDiffer es)
+differ-first : (d : List ℕ) (es : List (List ℕ)) → allDiffer (d ∷ es) ≡ (not (any (clash d) es) && allDiffer es)
 unfolding allDiffer distinct
-differ-more d es =
+differ-first d es =
     rw (any-clash d es) (regroup (any (sameNumbers d) es) (any (sameNames d) es) (distinct sameNumbers es) (distinct sameNames es))
   where
     regroup : (a b x y : Bool) → ((not a && x) && (not b && y)) ≡ (not (a || b) && (x && y))
     regroup true b x y = refl
     regroup false true x y = and-false x
     regroup false false x y = refl
+
+-- entries es, of which d is the first and ds are the others
+module _ {es ds : List (List ℕ)} {d : List ℕ} (r : es ≡ d ∷ ds) where
+  pub differ-not : any (clash d) ds ≡ true → allDiffer es ≡ false
+  differ-not h = rw (r, differ-first d ds, h)
+
+  pub differ-more : any (clash d) ds ≡ false → allDiffer es ≡ allDiffer ds
+  differ-more h = rw (r, differ-first d ds, h)

@@ -88,6 +88,10 @@ module _ (field : Field) (image : List ℕ) (all : List (List ℕ)) where
     known = λ i h p q. absurd (omega (arith, c .free i));
   }
 
+  -- the same entries left
+  pub kept-same : {table : List ℕ} {left rest : List (List ℕ)} → Kept field image all left table → left ≡ rest → Kept field image all rest table
+  kept-same k r = rw r at k
+
   -- where none is left, all differ
   pub kept-end : (table : List ℕ) → Kept field image all [] table → distinct (sameBy field) all ≡ true
   kept-end table k = ap (distinct (sameBy field)) (k .whole ∙ append-nil (k .done)) ∙ k .apart

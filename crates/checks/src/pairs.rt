@@ -6,9 +6,9 @@ ghost use Rattle.model.specs.Check.{sameNumbers, sameNames};
 ghost use Rattle.directory.specs.Cursor.{restOf, bytesAt, Stands, Passes};
 ghost use Rattle.checks.specs.Same.{sameBy, clash};
 use crate::Field;
+use directory::Advance;
 use directory::Cursor;
 use directory::EntryAt;
-use directory::Step;
 use directory::number_of;
 use directory::same_name;
 
@@ -50,18 +50,14 @@ fn clashes_behind(image: &[u8], from: Cursor, e: EntryAt) -> bool
 {
     let mut c = from;
     loop {
-        match c.next(image) {
-            Step::Entry(d, behind) => {
+        match c.advance(image) {
+            Advance::Entry(d, behind) => {
                 if clashes(image, e, d) {
                     return true;
                 }
                 c = behind;
             }
-            Step::End => {
-                return false;
-            }
-            // A directory that passed check 6 has none.
-            Step::Bad => {
+            Advance::End => {
                 return false;
             }
         }
@@ -75,18 +71,14 @@ pub fn pairs_differ(image: &[u8], from: Cursor) -> bool
 {
     let mut c = from;
     loop {
-        match c.next(image) {
-            Step::Entry(e, behind) => {
+        match c.advance(image) {
+            Advance::Entry(e, behind) => {
                 if clashes_behind(image, behind, e) {
                     return false;
                 }
                 c = behind;
             }
-            Step::End => {
-                return true;
-            }
-            // A directory that passed check 6 has none.
-            Step::Bad => {
+            Advance::End => {
                 return true;
             }
         }

@@ -8,9 +8,9 @@ ghost use Rattle.directory.specs.Cursor.{restOf, bytesAt, Stands, Passes};
 ghost use Rattle.checks.specs.Table.{hashed, spreadOf, homeBy, entryFrom, Clear, Filled, Probed, Compares};
 use crate::Field;
 use crate::pairs::same;
+use directory::Advance;
 use directory::Cursor;
 use directory::EntryAt;
-use directory::Step;
 use directory::number_of;
 
 // Slots of the table. The first 4,096 are home slots. No directory has more than 2,304 entries, nine in each of 256 blocks, so that
@@ -119,8 +119,8 @@ fn insert_all(image: &[u8], from: Cursor, field: Field, table: &mut [u32; SLOTS]
 {
     let mut c = from;
     loop {
-        match c.next(image) {
-            Step::Entry(e, behind) => match probe(image, table, e, field) {
+        match c.advance(image) {
+            Advance::Entry(e, behind) => match probe(image, table, e, field) {
                 Slot::Free(i) => {
                     table[i] = (e.start + 1) as u32;
                     c = behind;
@@ -132,11 +132,7 @@ fn insert_all(image: &[u8], from: Cursor, field: Field, table: &mut [u32; SLOTS]
                     return Compared::Unknown;
                 }
             },
-            Step::End => {
-                return Compared::Differ;
-            }
-            // A directory that passed check 6 has none.
-            Step::Bad => {
+            Advance::End => {
                 return Compared::Differ;
             }
         }

@@ -9,8 +9,8 @@ ghost use Rattle.blockmap.specs.Decoded.{entryIn, Decoded};
 ghost use Rattle.directory.specs.Cursor.{restOf, CursorFits, Passes};
 ghost use Rattle.checks.specs.Numbers.{directoryNumber, Claims, Judged, Mapped};
 use crate::limits::facts_number;
+use directory::Advance;
 use directory::Cursor;
-use directory::Step;
 use model::Fork;
 use model::VolumeFacts;
 
@@ -50,8 +50,8 @@ fn claim_all(
 {
     let mut c = from;
     loop {
-        match c.next(image) {
-            Step::Entry(e, behind) => {
+        match c.advance(image) {
+            Advance::Entry(e, behind) => {
                 let data = directory::read_fork(image, e, Fork::Data);
                 if !blockmap::claim_fork(entries, n, a, data, marks) {
                     return false;
@@ -62,11 +62,7 @@ fn claim_all(
                 }
                 c = behind;
             }
-            Step::End => {
-                return true;
-            }
-            // A directory that passed check 6 has none.
-            Step::Bad => {
+            Advance::End => {
                 return true;
             }
         }

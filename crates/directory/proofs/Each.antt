@@ -10,7 +10,9 @@ use Rattle.directory.specs.declared.Cursor.{Cursor}
 use Rattle.directory.specs.declared.EntryAt.{EntryAt}
 use Rattle.directory.specs.declared.Step.{Step}
 use Rattle.directory.specs.declared.Step.the-variants.{Entry, End, Bad}
-use Rattle.directory.specs.Cursor.{restOf, Passes, Moves, Fails, Stepped}
+use Rattle.directory.specs.declared.Advance.{Advance}
+use Rattle.directory.specs.declared.Advance.the-variants as advance
+use Rattle.directory.specs.Cursor.{restOf, Passes, Moves, Fails, Stepped, Advances, Advanced}
 
 pub differs : true ≡ false → ⊥
 differs h = so-not true h refl
@@ -26,6 +28,12 @@ module _ {image : List ℕ} {c : Cursor} {s : Step} where
 
 pub ended : (image : List ℕ) (c : Cursor) {s : Step} → Stepped image c s → s ≡ End → restOf image c ≡ []
 ended image c h p = rw p at h
+
+pub advanced : {image : List ℕ} {c : Cursor} {s : Advance} {e : EntryAt} {d : Cursor} → Advanced image c s → s ≡ advance.Entry e d → Advances image c e d
+advanced h p = rw p at h
+
+pub none-left : (image : List ℕ) (c : Cursor) {s : Advance} → Advanced image c s → s ≡ advance.End → restOf image c ≡ []
+none-left image c h p = rw p at h
 
 -- ---- check 6
 

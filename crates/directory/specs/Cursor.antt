@@ -12,6 +12,8 @@ use Rattle.directory.specs.declared.Cursor.{Cursor}
 use Rattle.directory.specs.declared.EntryAt.{EntryAt}
 use Rattle.directory.specs.declared.Step.{Step}
 use Rattle.directory.specs.declared.Step.the-variants.{Entry, End, Bad}
+use Rattle.directory.specs.declared.Advance.{Advance}
+use Rattle.directory.specs.declared.Advance.the-variants as advance
 
 -- the directory block that the cursor stands in
 abbrev pub blockOf : List ℕ → Cursor → List ℕ
@@ -94,3 +96,13 @@ abbrev pub Stepped : List ℕ → Cursor → Step → Type 0
 Stepped image c (Entry e d) = Moves image c e d
 Stepped image c End = restOf image c ≡ []
 Stepped image c Bad = Fails image c
+
+-- the same where check 6 fires for none of the entries, so that it fires for none behind e
+pub record Advances (image : List ℕ) (c : Cursor) (e : EntryAt) (d : Cursor) : Type 0 where
+  pub moves : Moves image c e d
+  pub passes : Passes image d
+
+-- what it finds there
+abbrev pub Advanced : List ℕ → Cursor → Advance → Type 0
+Advanced image c (advance.Entry e d) = Advances image c e d
+Advanced image c advance.End = restOf image c ≡ []

@@ -40,6 +40,12 @@ pub enum Step {
     Bad,
 }
 
+// What it finds in a directory that passed check 6.
+pub enum Advance {
+    Entry(EntryAt, Cursor),
+    End,
+}
+
 // What a search finds.
 pub enum Found {
     // The entry, with its place in directory order.

@@ -3,7 +3,8 @@ ghost use mathlib.Core.Path.{_≡_};
 ghost use mathlib.Core.Bool.{false};
 ghost use Prim.Native.Nat.{_≤_};
 ghost use Rattle.model.specs.Directory.{endsAt};
-ghost use Rattle.directory.specs.Cursor.{blockOf, CursorFits, Stepped, Begins};
+ghost use Rattle.directory.specs.Cursor.{blockOf, CursorFits, Passes, Stepped, Advanced, Begins};
+use crate::Advance;
 use crate::Cursor;
 use crate::EntryAt;
 use crate::Step;
@@ -92,5 +93,18 @@ impl Cursor {
             };
         }
         c.entry(image)
+    }
+
+    // The same in a directory that passed check 6.
+    pub fn advance(self, image: &[u8]) -> Advance
+        requires { ⌜ Passes (now image) self ⌝ }
+        ensures { λ r. ⌜ Advanced (now (image .entry)) self r ⌝ }
+    {
+        match self.next(image) {
+            Step::Entry(e, behind) => Advance::Entry(e, behind),
+            Step::End => Advance::End,
+            // A directory that passed check 6 has none.
+            Step::Bad => Advance::End,
+        }
     }
 }

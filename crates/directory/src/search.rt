@@ -3,10 +3,10 @@ ghost use mathlib.Core.Path.{_≡_};
 ghost use Rattle.model.specs.Directory.{named};
 ghost use Rattle.directory.specs.Cursor.{restOf, bytesAt, Stands, Passes};
 ghost use Rattle.directory.specs.Search.{Finds, Located, Gives};
+use crate::Advance;
 use crate::Cursor;
 use crate::EntryAt;
 use crate::Found;
-use crate::Step;
 use crate::names::same_name;
 
 // Whether the entry has the name.
@@ -28,19 +28,15 @@ pub fn locate(image: &[u8], from: Cursor, name: &[u8]) -> Found
     let mut c = from;
     let mut place: usize = 0;
     loop {
-        match c.next(image) {
-            Step::Entry(e, behind) => {
+        match c.advance(image) {
+            Advance::Entry(e, behind) => {
                 if has_name(image, e, name) {
                     return Found::At(place, e);
                 }
                 place += 1;
                 c = behind;
             }
-            Step::End => {
-                return Found::Nothing;
-            }
-            // A directory that passed check 6 has none.
-            Step::Bad => {
+            Advance::End => {
                 return Found::Nothing;
             }
         }
@@ -55,19 +51,15 @@ pub fn entry_at(image: &[u8], from: Cursor, place: u64) -> Found
     let mut c = from;
     let mut due = place;
     loop {
-        match c.next(image) {
-            Step::Entry(e, behind) => {
+        match c.advance(image) {
+            Advance::Entry(e, behind) => {
                 if due == 0 {
                     return Found::At(place as usize, e);
                 }
                 due -= 1;
                 c = behind;
             }
-            Step::End => {
-                return Found::Nothing;
-            }
-            // A directory that passed check 6 has none.
-            Step::Bad => {
+            Advance::End => {
                 return Found::Nothing;
             }
         }

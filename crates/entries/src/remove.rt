@@ -7,9 +7,9 @@ ghost use Rattle.model.specs.Bytes.{zeros, part};
 ghost use Rattle.model.specs.Directory.{readEnd};
 ghost use Rattle.directory.specs.Cursor.{Stands, Lies};
 ghost use Rattle.entries.specs.Blocks.{Block, Removes};
+use directory::Advance;
 use directory::Cursor;
 use directory::EntryAt;
-use directory::Step;
 use directory::entry_size;
 
 // Where the reading of the directory block at byte base ends.
@@ -23,15 +23,11 @@ pub fn read_end(image: &[u8], base: usize) -> usize
         left: 0,
     };
     loop {
-        match c.next(image) {
-            Step::Entry(_, behind) => {
+        match c.advance(image) {
+            Advance::Entry(_, behind) => {
                 c = behind;
             }
-            Step::End => {
-                return c.at;
-            }
-            // A directory that passed check 6 has none.
-            Step::Bad => {
+            Advance::End => {
                 return c.at;
             }
         }

@@ -1,14 +1,11 @@
 -- `insert_all` meets its contract. The loop's invariant: the entries before c differ from each other, and they are what the table holds.
 -- Assumes nothing.
-use Prim.Native.Nat.{ℕ}
-use mathlib.Core.Path.{subst}
-use mathlib.Core.List.{List, _∷_}
 use native.Mathlib.Omega.{arith}
 use denote.Ref.{now}
-use Rattle.directory.specs.Cursor.{restOf, Passes, ahead, bytesAt, Moves}
-use Rattle.directory.proofs.Each.{moved, ended, passes-more, never-fails}
+use Rattle.directory.specs.Cursor.{restOf, Passes, ahead, Advances}
+use Rattle.directory.proofs.Each.{advanced, none-left}
 use Rattle.checks.specs.Table.{FreeAt}
-use Rattle.checks.proofs.Kept.{Kept, found-free, found-met, kept-none, kept-more, kept-met, kept-end}
+use Rattle.checks.proofs.Kept.{Kept, found-free, found-met, kept-none, kept-same, kept-more, kept-met, kept-end}
 use borrow.Author.Needs.{needs}
 use Rattle.checks.proofs.table.insert_all.Statement.{statement}
 use Rattle.checks.proofs.table.insert_all.Tie as tie
@@ -19,54 +16,44 @@ Inv-loop image field table₀ c₀ table c = Passes image c × Kept field image 
 abbrev μ-loop : tie.MeasureT-loop
 μ-loop image field table₀ c₀ table c = ahead c
 
--- the loop's test, from the next entry on, and the start
+-- the loop's test, from the next entry on
 abbrev at-loop : tie.After-e Inv-loop μ-loop → tie.At-loop Inv-loop μ-loop
 at-loop c = c .before .before .before
 
-abbrev start : tie.At-loop Inv-loop μ-loop → tie.Start Inv-loop μ-loop
-start l = l .before .before
-
--- the step to the next entry, its bytes, and the entries behind it
+-- the step to the next entry
 step : (c : tie.After-e Inv-loop μ-loop) → let l = at-loop c in
-    Moves (now (start l .args .image)) (l .loop .c) (c .e .given .0 .0) (c .e .given .0 .1 .0)
-step c = let n = c .before .before in moved (n .next .ensures) (c .e .given .1)
+    Advances (now (l .before .before .args .image)) (l .loop .c) (c .e .given .0 .0) (c .e .given .0 .1 .0)
+step c = advanced (c .before .before .advance .ensures) (c .e .given .1)
 
-abbrev bytes : tie.After-e Inv-loop μ-loop → List ℕ
-bytes c = bytesAt (now (start (at-loop c) .args .image)) (c .e .given .0 .0)
+-- the entry, from its probe on and from its free slot on
+abbrev probed : tie.After-probe Inv-loop μ-loop → tie.After-e Inv-loop μ-loop
+probed c = c .before .before .before
 
-abbrev rest : tie.After-e Inv-loop μ-loop → List (List ℕ)
-rest c = restOf (now (start (at-loop c) .args .image)) (c .e .given .0 .1 .0)
-
--- the table before the next entry is put there
-here : (c : tie.After-e Inv-loop μ-loop) → let l = c .before .before .before in let a = l .before .before .args in
-    Kept (a .field) (now (a .image)) (restOf (now (a .image)) (a .from)) (bytes c ∷ rest c) (l .loop .table)
-here c =
-    let l = c .before .before .before in
-    let a = l .before .before .args in
-    subst (λ (es : List (List ℕ)). Kept (a .field) (now (a .image)) (restOf (now (a .image)) (a .from)) es (l .loop .table)) (step c .rest) (l .loop .inv .1)
+abbrev entry : tie.After-i Inv-loop μ-loop → tie.After-e Inv-loop μ-loop
+entry c = probed (c .before .before)
 
 -- the free slot for it
-free : (c : tie.After-i Inv-loop μ-loop) → let k = c .before .before .before .before .before in let l = at-loop k in
-    FreeAt (start l .args .field) (now (start l .args .image)) (l .loop .table) (k .e .given .0 .0) (c .i .given .0 .0)
+free : (c : tie.After-i Inv-loop μ-loop) → let k = entry c in let l = at-loop k in let a = l .before .before .args in
+    FreeAt (a .field) (now (a .image)) (l .loop .table) (k .e .given .0 .0) (c .i .given .0 .0)
 free c = found-free _ _ _ _ _ (c .before .before .probe .ensures) _ (c .i .given .1)
 
 loop-holds : tie.Need-loop-holds Inv-loop μ-loop
 loop-holds c = (c .before .pre .0, kept-none _ _ _ _ (c .before .pre .1))
 
-next-requires : tie.Need-next-requires Inv-loop μ-loop
-next-requires c κs = c .loop .inv .0 .fits
+advance-requires : tie.Need-advance-requires Inv-loop μ-loop
+advance-requires c κs = search needs
 
 enum-known-e : tie.Need-enum-known-e Inv-loop μ-loop
 enum-known-e c = search needs
 
 probe-requires : tie.Need-probe-requires Inv-loop μ-loop
-probe-requires c κs = let k = c .before .before in (step k .stands, here k .filled)
+probe-requires c κs = let k = c .before .before in (step k .moves .stands, at-loop k .loop .inv .1 .filled)
 
 enum-known-i : tie.Need-enum-known-i Inv-loop μ-loop
 enum-known-i c = search needs
 
 add-table : tie.Need-add-table Inv-loop μ-loop
-add-table c = omega (arith, step (c .before .before .before .before .before .before .before) .stands)
+add-table c = omega (arith, step (entry (c .before .before)) .moves .stands)
 
 cast-table : tie.Need-cast-table Inv-loop μ-loop
 cast-table c = omega (arith, free (c .before .before))
@@ -78,14 +65,15 @@ element-write-table : tie.Need-element-write-table Inv-loop μ-loop
 element-write-table c = free (c .before .before) .within
 
 loop-less : tie.Need-loop-less Inv-loop μ-loop
-loop-less c = step (c .before .before .before .before .before .before .before) .less
+loop-less c = step (entry (c .before .before)) .moves .less
 
 loop-again : tie.Need-loop-again Inv-loop μ-loop
 loop-again c =
-    let k = c .before .before .before .before .before .before .before in
-    let l = k .before .before .before in
-    let pass = passes-more (l .loop .inv .0) (step k) in
-    (pass, kept-more _ _ _ (here k .long) _ (step k .stands) _ (free (c .before .before)) _ _ (here k))
+    let k = entry (c .before .before) in
+    let kept = at-loop k .loop .inv .1 in
+    let s = step k in
+    let m = s .moves in
+    (s .passes, kept-more _ _ _ (kept .long) _ (m .stands) _ (free (c .before .before)) _ _ (kept-same _ _ _ kept (m .rest)))
 
 enum-told : tie.Need-enum-told Inv-loop μ-loop
 enum-told c = search needs
@@ -93,7 +81,8 @@ enum-told c = search needs
 returns : tie.Need-returns Inv-loop μ-loop
 returns c =
     let p = c .before .before in
-    kept-met _ _ _ _ _ _ (here (p .before .before .before)) (found-met _ _ _ _ _ (p .probe .ensures) (c .enum-told .given .1))
+    let k = probed p in
+    kept-met _ _ _ _ _ _ (kept-same _ _ _ (at-loop k .loop .inv .1) (step k .moves .rest)) (found-met _ _ _ _ _ (p .probe .ensures) (c .enum-told .given .1))
 
 enum-told-2 : tie.Need-enum-told-2 Inv-loop μ-loop
 enum-told-2 c = search needs
@@ -107,19 +96,7 @@ enum-told-3 c = search needs
 returns-3 : tie.Need-returns-3 Inv-loop μ-loop
 returns-3 c =
     let n = c .before .before in
-    let l = n .before .loop in
-    let a = n .before .before .before .args in
-    let none = ended (now (a .image)) (l .c) (n .next .ensures) (c .enum-told3 .given .1) in
-    kept-end _ _ _ _ (subst (λ (es : List (List ℕ)). Kept (a .field) (now (a .image)) (restOf (now (a .image)) (a .from)) es (l .table)) none (l .inv .1))
-
-enum-told-4 : tie.Need-enum-told-4 Inv-loop μ-loop
-enum-told-4 c = search needs
-
-returns-4 : tie.Need-returns-4 Inv-loop μ-loop
-returns-4 c =
-    let n = c .before .before in
-    let l = n .before .loop in
-    absurd (never-fails (l .inv .0) (n .next .ensures) (c .enum-told4 .given .1))
+    kept-end _ _ _ _ (kept-same _ _ _ (n .before .loop .inv .1) (none-left _ _ (n .advance .ensures) (c .enum-told3 .given .1)))
 
 pub insert-all-spec : {M : Type 1} → statement M
 insert-all-spec =
@@ -128,7 +105,7 @@ insert-all-spec =
     Inv-loop
     μ-loop
     loop-holds
-    next-requires
+    advance-requires
     enum-known-e
     probe-requires
     enum-known-i
@@ -143,6 +120,4 @@ insert-all-spec =
     enum-told-2
     returns-2
     enum-told-3
-    returns-3
-    enum-told-4
-    returns-4)
+    returns-3)

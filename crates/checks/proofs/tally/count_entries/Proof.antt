@@ -3,7 +3,7 @@
 use Prim.Native.Nat.{ℕ, _+_, _≤_}
 use mathlib.Core.Path.{_≡_, refl, sym, ap, _∙_}
 use mathlib.Core.Bool.{_&&_, and-true}
-use mathlib.Core.List.{List, _∷_}
+use mathlib.Core.List.{List}
 use mathlib.Core.Logic.{⊎-elim}
 use native.Mathlib.Omega.{arith}
 use denote.Ref.{now}
@@ -11,7 +11,7 @@ use lib.ListN.{length}
 use borrow.Author.Tests.{not-true, not-false}
 use Rattle.model.specs.Lists.{every}
 use Rattle.model.specs.Check.{fires6, goodNumber}
-use Rattle.directory.specs.Cursor.{restOf, CursorFits, ahead, bytesAt, Moves}
+use Rattle.directory.specs.Cursor.{restOf, CursorFits, ahead, Moves}
 use Rattle.directory.proofs.Each.{moved, ended, failed, six-more, six-none, six-fails, differs}
 use Rattle.directory.proofs.Tests.{every-pass, every-fail}
 use borrow.Author.Needs.{needs}
@@ -27,24 +27,10 @@ Inv-loop image next c₀ count₀ numbered₀ c count numbered =
 abbrev μ-loop : tie.MeasureT-loop
 μ-loop image next c₀ count₀ numbered₀ c count numbered = ahead c
 
--- the step to the next entry, its bytes, and the entries behind it
+-- the step to the next entry
 step : (c : tie.After-e Inv-loop μ-loop) → let l = c .before .before .before in
     Moves (now (l .before .before .args .image)) (l .loop .c) (c .e .given .0 .0) (c .e .given .0 .1 .0)
-step c = let n = c .before .before in moved (n .next .ensures) (c .e .given .1)
-
-abbrev bytes : tie.After-e Inv-loop μ-loop → List ℕ
-bytes c = bytesAt (now (c .before .before .before .before .before .args .image)) (c .e .given .0 .0)
-
-abbrev rest : tie.After-e Inv-loop μ-loop → List (List ℕ)
-rest c = restOf (now (c .before .before .before .before .before .args .image)) (c .e .given .0 .1 .0)
-
--- the file numbers with the next entry in front
-here : (c : tie.After-e Inv-loop μ-loop) → let l = c .before .before .before in
-    every (goodNumber (l .before .before .args .next)) (restOf (now (l .before .before .args .image)) (l .before .before .args .from))
-    ≡ (l .loop .numbered && every (goodNumber (l .before .before .args .next)) (bytes c ∷ rest c))
-here c =
-    let l = c .before .before .before in
-    l .loop .inv .4 ∙ ap (λ (es : List (List ℕ)). l .loop .numbered && every (goodNumber (l .before .before .args .next)) es) (step c .rest)
+step c = moved (c .before .before .next .ensures) (c .e .given .1)
 
 loop-holds : tie.Need-loop-holds Inv-loop μ-loop
 loop-holds c = (c .before .pre, omega arith, refl, omega arith, refl)
@@ -67,18 +53,16 @@ loop-less c = omega (arith, step (c .before .before .before))
 loop-again : tie.Need-loop-again Inv-loop μ-loop
 loop-again c =
     let k = c .before .before .before in
-    let l = k .before .before .before in
-    let a = l .before .before .args in
+    let l = k .before .before .before .loop in
     let m = step k in
     let long = ap (length {A = List ℕ}) (m .rest) in
-    let six = six-more (now (a .image)) (l .loop .c) (k .e .given .0 .0) (k .e .given .0 .1 .0) m in
     let good = sym (c .before .good-number .ensures) in
     let numbers =
-    ⊎-elim (λ w. every-fail (goodNumber (a .next)) (bytes k) (rest k) (l .loop .numbered) (c .if1 .numbered) (good ∙ not-true _ (w .0 .taken)) (w .1))
-    (λ w. every-pass (goodNumber (a .next)) (bytes k) (rest k) (l .loop .numbered) (c .if1 .numbered) (good ∙ not-false _ (w .0 .left)) (w .1))
+    ⊎-elim (λ w. every-fail (m .rest) (goodNumber _) (l .numbered) (c .if1 .numbered) (good ∙ not-true _ (w .0 .taken)) (w .1))
+    (λ w. every-pass (m .rest) (goodNumber _) (l .numbered) (c .if1 .numbered) (good ∙ not-false _ (w .0 .left)) (w .1))
     (c .if1 .came)
     in
-    (m .fits, omega arith, l .loop .inv .2 ∙ six, omega arith, here k ∙ numbers)
+    (m .fits, omega arith, l .inv .2 ∙ six-more _ _ _ _ m, omega arith, l .inv .4 ∙ numbers)
 
 enum-told : tie.Need-enum-told Inv-loop μ-loop
 enum-told c = search needs

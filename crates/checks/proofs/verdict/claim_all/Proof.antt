@@ -6,17 +6,19 @@ use denote.Ref.{now}
 use borrow.Author.Tests.{not-true, not-false}
 use Rattle.model.specs.Directory.{forkOf, forksIn}
 use Rattle.model.specs.declared.ForkFacts.{ForkFacts}
+use Rattle.model.specs.declared.Fork.{Fork}
 use Rattle.model.specs.declared.Fork.the-variants.{Data, Resource}
 use Rattle.blockmap.specs.Decoded.{entryIn}
-use Rattle.directory.specs.Cursor.{restOf, Passes, ahead, bytesAt, Moves}
-use Rattle.directory.proofs.Each.{moved, ended, passes-more, never-fails}
+use Rattle.directory.specs.Cursor.{restOf, Passes, ahead, bytesAt, Advances}
+use Rattle.directory.proofs.Each.{advanced, none-left}
 use Rattle.checks.proofs.Claims.{Onward, onward-none, onward-same, onward-end, onward-claim, onward-not, forks-more, forks-none}
 use borrow.Author.Needs.{needs}
 use Rattle.checks.proofs.verdict.claim_all.Statement.{statement}
 use Rattle.checks.proofs.verdict.claim_all.Tie as tie
 
 abbrev Inv-loop : tie.InvT-loop
-Inv-loop image entries n a marks₀ c₀ marks c = Passes image c × Onward (entryIn entries) n a marks₀ (forksIn (restOf image c₀)) marks (forksIn (restOf image c))
+Inv-loop image entries n a marks₀ c₀ marks c =
+    Passes image c × Onward (entryIn entries) n a marks₀ (forksIn (restOf image c₀)) marks (forksIn (restOf image c))
 
 abbrev μ-loop : tie.MeasureT-loop
 μ-loop image entries n a marks₀ c₀ marks c = ahead c
@@ -25,29 +27,28 @@ abbrev μ-loop : tie.MeasureT-loop
 abbrev at-loop : tie.After-e Inv-loop μ-loop → tie.At-loop Inv-loop μ-loop
 at-loop c = c .before .before .before
 
-abbrev start : tie.At-loop Inv-loop μ-loop → tie.Start Inv-loop μ-loop
-start l = l .before .before
+abbrev start : tie.After-e Inv-loop μ-loop → tie.Start Inv-loop μ-loop
+start c = at-loop c .before .before
 
--- the step to the next entry, its bytes, and the entries behind it
-step : (c : tie.After-e Inv-loop μ-loop) → let l = at-loop c in
-    Moves (now (start l .args .image)) (l .loop .c) (c .e .given .0 .0) (c .e .given .0 .1 .0)
-step c = let n = c .before .before in moved (n .next .ensures) (c .e .given .1)
+-- the step to the next entry, its fork, and the forks of the entries behind it
+step : (c : tie.After-e Inv-loop μ-loop) → Advances (now (start c .args .image)) (at-loop c .loop .c) (c .e .given .0 .0) (c .e .given .0 .1 .0)
+step c = advanced (c .before .before .advance .ensures) (c .e .given .1)
 
-abbrev bytes : tie.After-e Inv-loop μ-loop → List ℕ
-bytes c = bytesAt (now (start (at-loop c) .args .image)) (c .e .given .0 .0)
+abbrev own : tie.After-e Inv-loop μ-loop → Fork → ForkFacts
+own c fork = forkOf fork (bytesAt (now (start c .args .image)) (c .e .given .0 .0))
 
-abbrev rest : tie.After-e Inv-loop μ-loop → List (List ℕ)
-rest c = restOf (now (start (at-loop c) .args .image)) (c .e .given .0 .1 .0)
+abbrev behind : tie.After-e Inv-loop μ-loop → List ForkFacts
+behind c = forksIn (restOf (now (start c .args .image)) (c .e .given .0 .1 .0))
 
 -- to claim all forks is to claim these from the marks u
 abbrev Left : tie.After-e Inv-loop μ-loop → List ℕ → List ForkFacts → Type 0
 Left c u hs =
-    let a = start (at-loop c) .args in
+    let a = start c .args in
     Onward (entryIn (now (a .entries))) (a .n) (a .a) (now (a .marks)) (forksIn (restOf (now (a .image)) (a .from))) u hs
 
 -- before the entry's data fork is claimed
-first : (c : tie.After-e Inv-loop μ-loop) → Left c (at-loop c .loop .marks) (forkOf Data (bytes c) ∷ forkOf Resource (bytes c) ∷ forksIn (rest c))
-first c = onward-same _ _ _ _ _ _ (at-loop c .loop .inv .1) (forks-more _ _ _ (step c .rest))
+first : (c : tie.After-e Inv-loop μ-loop) → Left c (at-loop c .loop .marks) (own c Data ∷ own c Resource ∷ behind c)
+first c = onward-same _ _ _ _ _ _ (at-loop c .loop .inv .1) (forks-more _ _ _ (step c .moves .rest))
 
 -- the entry, from its forks' reading; the data fork's, from its claim; the entry, from behind that claim
 abbrev at-entry : tie.After-read-fork Inv-loop μ-loop → tie.After-e Inv-loop μ-loop
@@ -59,9 +60,12 @@ at-read c = c .before .before
 abbrev entry : tie.Else1 Inv-loop μ-loop → tie.After-e Inv-loop μ-loop
 entry c = at-entry (at-read (c .before))
 
--- and behind it
-second : (c : tie.Else1 Inv-loop μ-loop) → let k = entry c in
-    Left k (c .before .claim-fork .last .1 .1 .1 .1 .0) (forkOf Resource (bytes k) ∷ forksIn (rest k))
+-- and from behind the resource fork's
+abbrev past : tie.After-claim-fork2 Inv-loop μ-loop → tie.After-e Inv-loop μ-loop
+past c = entry (c .before .before .before)
+
+-- before its resource fork is claimed
+second : (c : tie.Else1 Inv-loop μ-loop) → let k = entry c in Left k (c .before .claim-fork .last .1 .1 .1 .1 .0) (own k Resource ∷ behind k)
 second c =
     let claim = c .before in
     let read = at-read claim in
@@ -71,17 +75,17 @@ second c =
 loop-holds : tie.Need-loop-holds Inv-loop μ-loop
 loop-holds c = (c .before .pre .1, onward-none _ _ _ _ _)
 
-next-requires : tie.Need-next-requires Inv-loop μ-loop
-next-requires c κs = c .loop .inv .0 .fits
+advance-requires : tie.Need-advance-requires Inv-loop μ-loop
+advance-requires c κs = search needs
 
 enum-known-e : tie.Need-enum-known-e Inv-loop μ-loop
 enum-known-e c = search needs
 
 read-fork-requires : tie.Need-read-fork-requires Inv-loop μ-loop
-read-fork-requires c κs = step (c .before) .stands
+read-fork-requires c κs = step (c .before) .moves .stands
 
 claim-fork-requires : tie.Need-claim-fork-requires Inv-loop μ-loop
-claim-fork-requires c κs = start (at-loop (at-entry (c .before))) .pre .0
+claim-fork-requires c κs = start (at-entry (c .before)) .pre .0
 
 returns : tie.Need-returns Inv-loop μ-loop
 returns c =
@@ -90,10 +94,10 @@ returns c =
     onward-not _ _ _ _ _ _ _ _ _ (first (at-entry read)) (read .read-fork .ensures) _ (claim .claim-fork .ensures .0) _ (not-true _ (c .if1 .taken))
 
 read-fork-requires-2 : tie.Need-read-fork-requires-2 Inv-loop μ-loop
-read-fork-requires-2 c κs = step (entry c) .stands
+read-fork-requires-2 c κs = step (entry c) .moves .stands
 
 claim-fork-requires-2 : tie.Need-claim-fork-requires-2 Inv-loop μ-loop
-claim-fork-requires-2 c κs = start (at-loop (entry (c .before .before))) .pre .0
+claim-fork-requires-2 c κs = start (entry (c .before .before)) .pre .0
 
 returns-2 : tie.Need-returns-2 Inv-loop μ-loop
 returns-2 c =
@@ -102,15 +106,13 @@ returns-2 c =
     onward-not _ _ _ _ _ _ _ _ _ (second (read .before)) (read .read-fork2 .ensures) _ (claim .claim-fork2 .ensures .0) _ (not-true _ (c .if2 .taken))
 
 loop-less : tie.Need-loop-less Inv-loop μ-loop
-loop-less c = step (entry (c .before .before .before .before)) .less
+loop-less c = step (past (c .before)) .moves .less
 
 loop-again : tie.Need-loop-again Inv-loop μ-loop
 loop-again c =
     let claim = c .before in
-    let read = claim .before .before in
-    let k = entry (read .before) in
-    let l = at-loop k in (
-      passes-more (l .loop .inv .0) (step k),
+    let read = claim .before .before in (
+      step (past claim) .passes,
       onward-claim _ _ _ _ _ _ _ _ _ (second (read .before)) (read .read-fork2 .ensures) _ (claim .claim-fork2 .ensures .0) _
           (not-false _ (c .if2 .left)) (claim .claim-fork2 .ensures .1),
     )
@@ -121,17 +123,7 @@ enum-told c = search needs
 returns-3 : tie.Need-returns-3 Inv-loop μ-loop
 returns-3 c =
     let n = c .before .before in
-    let l = n .before .loop in
-    onward-end _ _ _ _ _ _ (onward-same _ _ _ _ _ _ (l .inv .1) (forks-none _ (ended _ _ (n .next .ensures) (c .enum-told .given .1))))
-
-enum-told-2 : tie.Need-enum-told-2 Inv-loop μ-loop
-enum-told-2 c = search needs
-
-returns-4 : tie.Need-returns-4 Inv-loop μ-loop
-returns-4 c =
-    let n = c .before .before in
-    let l = n .before .loop in
-    absurd (never-fails (l .inv .0) (n .next .ensures) (c .enum-told2 .given .1))
+    onward-end _ _ _ _ _ _ (onward-same _ _ _ _ _ _ (n .before .loop .inv .1) (forks-none _ (none-left _ _ (n .advance .ensures) (c .enum-told .given .1))))
 
 pub claim-all-spec : {M : Type 1} → statement M
 claim-all-spec =
@@ -140,7 +132,7 @@ claim-all-spec =
     Inv-loop
     μ-loop
     loop-holds
-    next-requires
+    advance-requires
     enum-known-e
     read-fork-requires
     claim-fork-requires
@@ -151,6 +143,4 @@ claim-all-spec =
     loop-less
     loop-again
     enum-told
-    returns-3
-    enum-told-2
-    returns-4)
+    returns-3)

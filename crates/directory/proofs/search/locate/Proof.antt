@@ -2,15 +2,14 @@
 -- is the first that has it, its place is counted on from there, and the directory's reading comes to c. Assumes nothing.
 use Prim.Native.Nat.{ℕ, _+_, _≤_}
 use mathlib.Core.Path.{_≡_, refl, sym, ap, _∙_}
-use mathlib.Core.Bool.{Bool}
-use mathlib.Core.List.{List, []}
+use mathlib.Core.List.{[]}
 use native.Mathlib.Omega.{arith}
 use denote.Ref.{now}
 use Rattle.model.specs.Lists.{any, first, placeOf}
 use Rattle.model.specs.Directory.{named}
-use Rattle.directory.specs.Cursor.{restOf, Passes, ahead, bytesAt, Comes, Moves}
+use Rattle.directory.specs.Cursor.{restOf, Passes, ahead, Comes, Advances}
 use Rattle.directory.specs.Search.{FirstNamed}
-use Rattle.directory.proofs.Each.{moved, ended, passes-more, never-fails}
+use Rattle.directory.proofs.Each.{advanced, none-left}
 use Rattle.directory.proofs.Tests.{any-pass, any-fail, first-pass, first-fail, place-pass, place-fail}
 use borrow.Author.Needs.{needs}
 use Rattle.directory.proofs.search.locate.Statement.{statement}
@@ -27,77 +26,65 @@ Inv-loop image name c₀ place₀ c place =
 abbrev μ-loop : tie.MeasureT-loop
 μ-loop image name c₀ place₀ c place = ahead c
 
--- the loop's test, from the next entry on, and the start
+-- the loop's test, from the next entry on
 abbrev at-loop : tie.After-e Inv-loop μ-loop → tie.At-loop Inv-loop μ-loop
 at-loop c = c .before .before .before
 
 abbrev start : tie.At-loop Inv-loop μ-loop → tie.Start Inv-loop μ-loop
 start l = l .before .before .before
 
--- the step to the next entry, its bytes, and the entries behind it
+-- the step to the next entry
 step : (c : tie.After-e Inv-loop μ-loop) → let l = at-loop c in
-    Moves (now (start l .args .image)) (l .loop .c) (c .e .given .0 .0) (c .e .given .0 .1 .0)
-step c = let n = c .before .before in moved (n .next .ensures) (c .e .given .1)
-
-abbrev bytes : tie.After-e Inv-loop μ-loop → List ℕ
-bytes c = bytesAt (now (start (at-loop c) .args .image)) (c .e .given .0 .0)
-
-abbrev rest : tie.After-e Inv-loop μ-loop → List (List ℕ)
-rest c = restOf (now (start (at-loop c) .args .image)) (c .e .given .0 .1 .0)
-
-abbrev test : tie.After-e Inv-loop μ-loop → List ℕ → Bool
-test c = named (now (start (at-loop c) .args .name))
+    Advances (now (start l .args .image)) (l .loop .c) (c .e .given .0 .0) (c .e .given .0 .1 .0)
+step c = advanced (c .before .before .advance .ensures) (c .e .given .1)
 
 loop-holds : tie.Need-loop-holds Inv-loop μ-loop
 loop-holds c = (c .before .before .pre, omega arith, refl, refl, omega arith, λ base blocks k. k)
 
-next-requires : tie.Need-next-requires Inv-loop μ-loop
-next-requires c κs = c .loop .inv .0 .fits
+advance-requires : tie.Need-advance-requires Inv-loop μ-loop
+advance-requires c κs = search needs
 
 enum-known-e : tie.Need-enum-known-e Inv-loop μ-loop
 enum-known-e c = search needs
 
 has-name-requires : tie.Need-has-name-requires Inv-loop μ-loop
-has-name-requires c κs = step (c .before) .stands
+has-name-requires c κs = step (c .before) .moves .stands
 
 returns : tie.Need-returns Inv-loop μ-loop
 returns c =
     let k = c .before .before .before in
-    let l = k .before .before .before .loop in
+    let l = at-loop k .loop in
+    let m = step k .moves in
     let has = sym (c .before .has-name .ensures) ∙ c .if1 .taken in
-    let m = step k in
-    let place = ap (placeOf (test k)) (m .rest) ∙ place-pass (test k) (bytes k) (rest k) has in
     let a = start (at-loop k) .args in
+    let place = place-pass (m .rest) (named (now (a .name))) has in
     let found : FirstNamed (now (a .image)) (now (a .name)) (restOf (now (a .image)) (a .from)) (l .place) (k .e .given .0 .0) = record {
-      exists = l .inv .2 ∙ ap (any (test k)) (m .rest) ∙ any-pass (test k) (bytes k) (rest k) has;
+      exists = l .inv .2 ∙ any-pass (m .rest) _ has;
       there = omega arith;
-      bytes = sym (l .inv .3 ∙ ap (first (test k) []) (m .rest) ∙ first-pass (test k) (bytes k) (rest k) [] has);
+      bytes = sym (l .inv .3 ∙ first-pass (m .rest) _ [] has);
       stands = m .stands;
     } in
     (found, λ base blocks h. m .lies base blocks (l .inv .5 base blocks h))
 
 add-place : tie.Need-add-place Inv-loop μ-loop
-add-place c = omega (arith, step (c .before .before .before))
+add-place c = omega (arith, step (c .before .before .before) .moves)
 
 loop-less : tie.Need-loop-less Inv-loop μ-loop
-loop-less c = omega (arith, step (c .before .before .before))
+loop-less c = step (c .before .before .before) .moves .less
 
 loop-again : tie.Need-loop-again Inv-loop μ-loop
 loop-again c =
     let k = c .before .before .before in
-    let l = k .before .before .before in
+    let l = at-loop k .loop in
+    let m = step k .moves in
     let not = sym (c .before .has-name .ensures) ∙ c .if1 .left in
-    let m = step k in
-    let pass = passes-more (l .loop .inv .0) m in
-    let exists = ap (any (test k)) (m .rest) ∙ any-fail (test k) (bytes k) (rest k) not in
-    let same = ap (first (test k) []) (m .rest) ∙ first-fail (test k) (bytes k) (rest k) [] not in
-    let place = ap (placeOf (test k)) (m .rest) ∙ place-fail (test k) (bytes k) (rest k) not in (
-      pass,
+    let place = place-fail (m .rest) (named (now (start (at-loop k) .args .name))) not in (
+      step k .passes,
       omega arith,
-      l .loop .inv .2 ∙ exists,
-      l .loop .inv .3 ∙ same,
+      l .inv .2 ∙ any-fail (m .rest) _ not,
+      l .inv .3 ∙ first-fail (m .rest) _ [] not,
       omega arith,
-      λ base blocks h. m .comes base blocks (l .loop .inv .5 base blocks h),
+      λ base blocks h. m .comes base blocks (l .inv .5 base blocks h),
     )
 
 enum-told : tie.Need-enum-told Inv-loop μ-loop
@@ -107,19 +94,8 @@ returns-2 : tie.Need-returns-2 Inv-loop μ-loop
 unfolding any
 returns-2 c =
     let n = c .before .before in
-    let l = n .before .loop in
-    let a = n .before .before .before .before .args in
-    let none = ended (now (a .image)) (l .c) (n .next .ensures) (c .enum-told .given .1) in
-    (l .inv .2 ∙ ap (any (named (now (a .name)))) none, tt)
-
-enum-told-2 : tie.Need-enum-told-2 Inv-loop μ-loop
-enum-told-2 c = search needs
-
-returns-3 : tie.Need-returns-3 Inv-loop μ-loop
-returns-3 c =
-    let n = c .before .before in
-    let l = n .before .loop in
-    absurd (never-fails (l .inv .0) (n .next .ensures) (c .enum-told2 .given .1))
+    let none = none-left _ _ (n .advance .ensures) (c .enum-told .given .1) in
+    (n .before .loop .inv .2 ∙ ap (any _) none, tt)
 
 pub locate-spec : {M : Type 1} → statement M
 locate-spec =
@@ -128,7 +104,7 @@ locate-spec =
     Inv-loop
     μ-loop
     loop-holds
-    next-requires
+    advance-requires
     enum-known-e
     has-name-requires
     returns
@@ -136,6 +112,4 @@ locate-spec =
     loop-less
     loop-again
     enum-told
-    returns-2
-    enum-told-2
-    returns-3)
+    returns-2)
