@@ -17,9 +17,11 @@ first-false a b h = rw h
 first-true : (a b r : Bool) → a ≡ true → b ≡ r → r ≡ (a && b)
 first-true a b r h g = rw (h, g)
 
+abbrev start : tie.After-enum-told → tie.Start
+start c = c .before .before .before .before .before
+
 -- the file numbers differ
-numbers : (c : tie.After-enum-told)
-    → let s = c .before .before .before .before .before in distinct sameNumbers (restOf (now (s .args .image)) (s .args .from)) ≡ true
+numbers : (c : tie.After-enum-told) → let s = start c in distinct sameNumbers (restOf (now (s .args .image)) (s .args .from)) ≡ true
 numbers c = let n = c .before .before in compared-differ Number _ _ (n .compare-by .ensures) (c .enum-told .given .1)
 
 pairs-differ-requires : tie.Need-pairs-differ-requires

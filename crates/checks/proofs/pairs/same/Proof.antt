@@ -6,6 +6,10 @@ use borrow.Author.Needs.{needs}
 use Rattle.checks.proofs.pairs.same.Statement.{statement}
 use Rattle.checks.proofs.pairs.same.Tie as tie
 
+-- the names are asked for, from their comparison
+abbrev by-name : tie.After-same-name → tie.After-enum-told2
+by-name c = c .before .before .before .before .before .before .before
+
 enum-told : tie.Need-enum-told
 enum-told c = search needs
 
@@ -57,7 +61,7 @@ returns c =
 
 returns-2 : tie.Need-returns-2
 returns-2 c =
-    let told = c .before .before .before .before .before .before .before in
+    let told = by-name c in
     let s = told .before .before .before in
     let one = name-part (now (s .args .image)) (s .args .d) (s .pre .0) in
     let two = name-part (now (s .args .image)) (s .args .e) (s .pre .1) in

@@ -6,6 +6,10 @@ use borrow.Author.Needs.{needs}
 use Rattle.checks.proofs.table.home.Statement.{statement}
 use Rattle.checks.proofs.table.home.Tie as tie
 
+-- the name's home slot is asked for, from its hash
+abbrev by-name : tie.After-hash-name → tie.After-enum-told2
+by-name c = c .before .before .before .before
+
 enum-told : tie.Need-enum-told
 enum-told c = search needs
 
@@ -46,7 +50,7 @@ returns c =
 returns-2 : tie.Need-returns-2
 returns-2 c =
     let m = c .before in
-    let told = m .before .before .before .before in
+    let told = by-name m in
     let s = told .before .before .before in
     home-name _ _ _ _ _ (told .enum-told2 .given .1) (c .spread2 .ensures) (m .hash-name .ensures) (name-part (now (s .args .image)) (s .args .e) (s .pre))
 

@@ -22,15 +22,19 @@ abbrev μ-loop : tie.MeasureT-loop
 abbrev start : tie.At-loop Inv-loop μ-loop → tie.Start Inv-loop μ-loop
 start l = l .before .before .before .before .before
 
+-- the loop's test, from a slot that is not free
+abbrev at-loop : tie.Else2 Inv-loop μ-loop → tie.At-loop Inv-loop μ-loop
+at-loop c = c .before .before .before
+
 -- an entry stands at the slot
-held : (c : tie.Else2 Inv-loop μ-loop) → let l = c .before .before .before in Occupied (now (start l .args .table)) (l .loop .i)
+held : (c : tie.Else2 Inv-loop μ-loop) → let l = at-loop c in Occupied (now (start l .args .table)) (l .loop .i)
 held c = omega arith
 
 -- and what the test says of it
-tested : (c : tie.After-same Inv-loop μ-loop) → let l = c .before .before .before .before .before in let a = start l .args in
+tested : (c : tie.After-same Inv-loop μ-loop) → let l = at-loop (c .before .before) in let a = start l .args in
     c .same .result ≡ sameBy (a .field) (occupant (now (a .image)) (now (a .table)) (l .loop .i)) (bytesAt (now (a .image)) (a .e))
 tested c =
-    let a = start (c .before .before .before .before .before) .args in
+    let a = start (at-loop (c .before .before)) .args in
     c .same .ensures ∙ ap (λ (d : EntryAt). sameBy (a .field) (bytesAt (now (a .image)) d) (bytesAt (now (a .image)) (a .e)))
     (c .before .entry-in-slot .ensures)
 
@@ -54,17 +58,18 @@ returns-2 c =
     let l = c .before .before .before in record { small = l .before .before .if1 .left; within = omega arith; free = c .if2 .taken; passed = l .loop .inv }
 
 entry-in-slot-requires : tie.Need-entry-in-slot-requires Inv-loop μ-loop
-entry-in-slot-requires c κs = (held c, start (c .before .before .before) .pre .1 _ (held c))
+entry-in-slot-requires c κs = (held c, start (at-loop c) .pre .1 _ (held c))
 
 same-requires : tie.Need-same-requires Inv-loop μ-loop
 same-requires c κs =
-    let s = start (c .before .before .before .before) in
-    (subst⁻¹ (Stands (now (s .args .image))) (c .entry-in-slot .ensures) (s .pre .1 _ (held (c .before))), s .pre .0)
+    let k = c .before in
+    let s = start (at-loop k) in
+    (subst⁻¹ (Stands (now (s .args .image))) (c .entry-in-slot .ensures) (s .pre .1 _ (held k)), s .pre .0)
 
 returns-3 : tie.Need-returns-3 Inv-loop μ-loop
 returns-3 c =
     let k = c .before .before .before in
-    record { slot = k .before .before .before .loop .i; held = held k; same = sym (tested (c .before)) ∙ c .if3 .taken }
+    record { slot = at-loop k .loop .i; held = held k; same = sym (tested (c .before)) ∙ c .if3 .taken }
 
 add-i : tie.Need-add-i Inv-loop μ-loop
 add-i c = omega arith
@@ -75,7 +80,7 @@ loop-less c = omega arith
 loop-again : tie.Need-loop-again Inv-loop μ-loop
 loop-again c =
     let k = c .before .before .before in
-    passed-more _ _ _ _ _ (k .before .before .before .loop .inv) (held k) (sym (tested (c .before)) ∙ c .if3 .left)
+    passed-more _ _ _ _ _ (at-loop k .loop .inv) (held k) (sym (tested (c .before)) ∙ c .if3 .left)
 
 returns-4 : tie.Need-returns-4 Inv-loop μ-loop
 returns-4 c = tt

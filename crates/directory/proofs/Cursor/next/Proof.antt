@@ -10,8 +10,6 @@ use Rattle.directory.specs.Cursor.{blockOf, restOf, CursorFits, Comes, a
 use Rattle.directory.proofs.Steps.{last-block, next-block, comes-block, stepped-from}
 use Rattle.directory.proofs.Cursor.next.Statement.{statement}
 use Rattle.directory.proofs.Cursor.next.Tie as tie
-use Rattle.directory.proofs.Cursor.ends.Reads as ends-reads
-use Rattle.directory.proofs.Cursor.entry.Reads as entry-reads
 
 abbrev Inv-loop : tie.InvT-loop
 Inv-loop image c₀ c =
@@ -21,9 +19,14 @@ Inv-loop image c₀ c =
 abbrev μ-loop : tie.MeasureT-loop
 μ-loop image c₀ c = c .left
 
--- where the block's reading ends at c
-ended : (c : tie.Then1 Inv-loop μ-loop)
-    → endsAt (blockOf (now (c .before .before .before .before .args .image)) (c .before .before .loop .c)) (c .before .before .loop .c .at) ≡ true
+abbrev start : tie.At-loop Inv-loop μ-loop → tie.Start Inv-loop μ-loop
+start l = l .before .before
+
+-- the loop's test, from where the block's reading ends
+abbrev at-loop : tie.Then1 Inv-loop μ-loop → tie.At-loop Inv-loop μ-loop
+at-loop c = c .before .before
+
+ended : (c : tie.Then1 Inv-loop μ-loop) → let l = at-loop c in endsAt (blockOf (now (start l .args .image)) (l .loop .c)) (l .loop .c .at) ≡ true
 ended c = sym (c .before .ends .ensures) ∙ c .if1 .taken
 
 loop-holds : tie.Need-loop-holds Inv-loop μ-loop
@@ -35,8 +38,8 @@ ends-requires c κs = c .loop .inv .0
 returns : tie.Need-returns Inv-loop μ-loop
 returns c =
     let b = c .before .before in
-    let l = b .before .before .loop in
-    l .inv .1 ∙ last-block (now (b .before .before .before .before .args .image)) (l .c) (l .inv .0) (ended b) (c .if2 .taken)
+    let l = at-loop b .loop in
+    l .inv .1 ∙ last-block (now (start (at-loop b) .args .image)) (l .c) (l .inv .0) (ended b) (c .if2 .taken)
 
 add-t6 : tie.Need-add-t6 Inv-loop μ-loop
 add-t6 c = omega arith
@@ -49,15 +52,14 @@ loop-less c = omega arith
 
 loop-again : tie.Need-loop-again Inv-loop μ-loop
 loop-again c =
-    let b = c .before .before .before .before in
-    let l = b .before .before .loop in
-    let next = next-block (now (b .before .before .before .before .args .image)) (l .c) (l .inv .0) (ended b) (c .before .before .if2 .left) in (
+    let some = c .before .before in
+    let b = some .before .before in
+    let l = at-loop b .loop in
+    let image = now (start (at-loop b) .args .image) in (
       record { blocks = omega arith; place = omega arith },
-      l .inv .1
-          ∙ next,
+      l .inv .1 ∙ next-block image (l .c) (l .inv .0) (ended b) (some .if2 .left),
       omega arith,
-      λ base blocks k. comes-block (now (b .before .before .before .before .args .image)) (l .c) base blocks
-          (c .before .before .if2 .left) (l .inv .3 base blocks k),
+      λ base blocks k. comes-block image (l .c) base blocks (some .if2 .left) (l .inv .3 base blocks k),
     )
 
 entry-requires : tie.Need-entry-requires Inv-loop μ-loop
@@ -65,8 +67,9 @@ entry-requires c κs = (c .before .before .loop .inv .0, sym (c .before .ends .e
 
 returns-2 : tie.Need-returns-2 Inv-loop μ-loop
 returns-2 c =
-    let l = c .before .before .before .loop in
-    let a = c .before .before .before .before .before .args in
+    let at = c .before .before .before in
+    let l = at .loop in
+    let a = start at .args in
     stepped-from (now (a .image)) (l .c) (a .self) (l .inv .1) (l .inv .2) (l .inv .3) (c .entry .result) (c .entry .ensures)
 
 pub next-spec : {M : Type 1} → statement M

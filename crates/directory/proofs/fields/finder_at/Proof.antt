@@ -16,8 +16,9 @@ copy-part-requires c κs = search needs
 
 returns : tie.Need-returns
 returns c =
-    let a = c .before .before .before .before .args in
-    c .before .copy-part .ensures ∙ paste-whole (zeros 16) (drop (a .at) (now (a .image)))
+    let k = c .before in
+    let a = k .before .before .before .args in
+    k .copy-part .ensures ∙ paste-whole (zeros 16) (drop (a .at) (now (a .image)))
 
 pub finder-at-spec : {M : Type 1} → statement M
 finder-at-spec = tie.close (tie.spec slice-aggregate-copy-part copy-part-requires returns)

@@ -27,12 +27,14 @@ be32-at-requires-2 c κs = search needs
 
 returns : tie.Need-returns
 returns c =
-    let a = c .before .before .before .before .args in
+    let logical = c .before in
+    let block = logical .before in
+    let a = block .before .before .args in
     let first : be16 (now (a .image)) (a .at) ≡ be16 (drop (a .at) (now (a .image))) 0 =
     sym (be16-drop (a .at) (now (a .image)) 0 ∙ ap (be16 (now (a .image))) (add-zero (a .at))) in
     fork-are (drop (a .at) (now (a .image))) _
-    (c .before .before .be16-at .ensures ∙ first)
-    (c .before .be32-at .ensures ∙ sym (be32-drop (a .at) (now (a .image)) 2))
+    (block .be16-at .ensures ∙ first)
+    (logical .be32-at .ensures ∙ sym (be32-drop (a .at) (now (a .image)) 2))
     (c .be32-at2 .ensures ∙ sym (be32-drop (a .at) (now (a .image)) 6))
 
 pub fork-at-spec : {M : Type 1} → statement M

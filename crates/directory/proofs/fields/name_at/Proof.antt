@@ -19,11 +19,12 @@ copy-part-requires c κs = search needs
 
 returns : tie.Need-returns
 returns c =
-    let a = c .before .before .before .before .args in
+    let k = c .before in
+    let a = k .before .before .before .args in
     let s = drop (a .at) (now (a .image)) in
     let some : length (part (a .at) (a .count) (now (a .image))) ≡ a .count =
     length-take-le (a .count) s (omega (arith, length-drop (a .at) (now (a .image)))) in
-    c .before .copy-part .ensures ∙ paste-start (zeros 255) s (a .count) ∙ wide-are (part (a .at) (a .count) (now (a .image))) (a .count) some
+    k .copy-part .ensures ∙ paste-start (zeros 255) s (a .count) ∙ wide-are (part (a .at) (a .count) (now (a .image))) (a .count) some
 
 pub name-at-spec : {M : Type 1} → statement M
 name-at-spec = tie.close (tie.spec slice-aggregate-copy-part copy-part-requires returns)

@@ -6,6 +6,9 @@ use borrow.Author.Needs.{needs}
 use Rattle.directory.proofs.fields.read_entry.Statement.{statement}
 use Rattle.directory.proofs.fields.read_entry.Tie as tie
 
+abbrev start : tie.After-finder-at → tie.Start
+start c = c .before .before .before .before
+
 add-t5 : tie.Need-add-t5
 add-t5 c = search needs
 
@@ -65,7 +68,7 @@ returns c =
     let forks = resource .before in
     let number = forks .before in
     let finder = number .before in
-    let s = finder .before .before .before .before in
+    let s = start finder in
     entry-are (now (s .args .image)) (s .args .e) (s .pre) _ refl refl
     (finder .finder-at .ensures)
     (number .number-of .ensures)

@@ -16,6 +16,16 @@ Inv-loop a b i₀ i = (length a ≡ length b) × (i ≤ length a) × (sameName (
 abbrev μ-loop : tie.MeasureT-loop
 μ-loop a b i₀ i = length a - i
 
+abbrev start : tie.At-loop Inv-loop μ-loop → tie.Start Inv-loop μ-loop
+start l = l .before .before .before .before
+
+-- the first byte's fold, from the second's, and the loop's test
+abbrev first : tie.After-fold2 Inv-loop μ-loop → tie.After-fold Inv-loop μ-loop
+first c = c .before .before
+
+abbrev at-loop : tie.After-fold2 Inv-loop μ-loop → tie.At-loop Inv-loop μ-loop
+at-loop c = first c .before .before .before
+
 returns : tie.Need-returns Inv-loop μ-loop
 returns c = sym (lengths-differ _ _ (c .if1 .taken))
 
@@ -36,11 +46,11 @@ fold-requires-2 c κs = search needs
 
 returns-2 : tie.Need-returns-2 Inv-loop μ-loop
 returns-2 c =
-    let l = c .before .before .before .before .before .before in
-    let a = l .before .before .before .before .args in
-    let x = c .before .before .before .fold .ensures in
-    let y = c .before .fold2 .ensures in
-    sym (name-differs (now (a .a)) (now (a .b)) (l .loop .i) (omega arith) (omega arith) (λ e. c .if2 .taken (x ∙ e ∙ sym y))) ∙ l .loop .inv .2
+    let k = c .before in
+    let l = at-loop k in
+    let a = start l .args in
+    sym (name-differs (now (a .a)) (now (a .b)) (l .loop .i) (omega arith) (omega arith)
+    (λ e. c .if2 .taken (first k .fold .ensures ∙ e ∙ sym (k .fold2 .ensures)))) ∙ l .loop .inv .2
 
 add-i : tie.Need-add-i Inv-loop μ-loop
 add-i c = omega arith
@@ -50,17 +60,17 @@ loop-less c = omega arith
 
 loop-again : tie.Need-loop-again Inv-loop μ-loop
 loop-again c =
-    let l = c .before .before .before .before .before .before in
-    let a = l .before .before .before .before .args in
-    let x = c .before .before .before .fold .ensures in
-    let y = c .before .fold2 .ensures in
-    let same = name-same (now (a .a)) (now (a .b)) (l .loop .i) (omega arith) (omega arith) (sym x ∙ c .if2 .left ∙ y) in
+    let k = c .before in
+    let l = at-loop k in
+    let a = start l .args in
+    let folds = sym (first k .fold .ensures) ∙ c .if2 .left ∙ k .fold2 .ensures in
+    let same = name-same (now (a .a)) (now (a .b)) (l .loop .i) (omega arith) (omega arith) folds in
     (omega arith, omega arith, sym same ∙ l .loop .inv .2)
 
 returns-3 : tie.Need-returns-3 Inv-loop μ-loop
 returns-3 c =
     let l = c .before in
-    let a = l .before .before .before .before .args in
+    let a = start l .args in
     sym (name-end (now (a .a)) (now (a .b)) (l .loop .i) (omega arith) (omega arith)) ∙ l .loop .inv .2
 
 pub same-name-spec : {M : Type 1} → statement M

@@ -7,6 +7,9 @@ use borrow.Author.Needs.{needs}
 use Rattle.directory.proofs.search.has_name.Statement.{statement}
 use Rattle.directory.proofs.search.has_name.Tie as tie
 
+abbrev start : tie.After-same-name → tie.Start
+start c = c .before .before .before .before .before .before
+
 add-from : tie.Need-add-from
 add-from c = search needs
 
@@ -28,7 +31,7 @@ same-name-requires c κs = search needs
 returns : tie.Need-returns
 unfolding named
 returns c =
-    let s = c .before .before .before .before .before .before in
+    let s = start c in
     c .same-name .ensures ∙ ap (sameName (now (s .args .name))) (name-part (now (s .args .image)) (s .args .e) (s .pre))
 
 pub has-name-spec : {M : Type 1} → statement M

@@ -5,6 +5,13 @@ use borrow.Author.Needs.{needs}
 use Rattle.entries.proofs.fork_fields.put_fork.Statement.{statement}
 use Rattle.entries.proofs.fork_fields.put_fork.Tie as tie
 
+-- the store before each one
+abbrev second : tie.After-put32-at2 → tie.After-put32-at
+second c = c .before .before .before .before
+
+abbrev first : tie.After-put32-at → tie.After-put16-at
+first c = c .before .before .before .before
+
 put16-at-requires : tie.Need-put16-at-requires
 put16-at-requires c κs = search needs
 
@@ -25,11 +32,11 @@ same-length c = search needs
 
 returns : tie.Need-returns
 returns c =
-    let third = c .before .before in
-    let second = third .before .before .before .before in
-    let first = second .before .before .before .before in
-    let a = first .before .before .before .args in
-    fork-stores (now (a .image)) (a .at) (a .g) _ _ _ (first .put16-at .ensures) (second .put32-at .ensures) (third .put32-at2 .ensures)
+    let physical = c .before .before in
+    let logical = second physical in
+    let block = first logical in
+    let a = block .before .before .before .args in
+    fork-stores (now (a .image)) (a .at) (a .g) _ _ _ (block .put16-at .ensures) (logical .put32-at .ensures) (physical .put32-at2 .ensures)
 
 pub put-fork-spec : {M : Type 1} → statement M
 put-fork-spec =

@@ -5,6 +5,10 @@ use borrow.Author.Needs.{needs}
 use Rattle.entries.proofs.fork_fields.store_fork.Statement.{statement}
 use Rattle.entries.proofs.fork_fields.store_fork.Tie as tie
 
+-- the fork's store, from the date's
+abbrev fork-put : tie.After-put32-at → tie.After-put-fork
+fork-put c = c .before .before .before .before .before
+
 fork-place-requires : tie.Need-fork-place-requires
 fork-place-requires c κs = search needs
 
@@ -26,7 +30,7 @@ same-length c = search needs
 returns : tie.Need-returns
 returns c =
     let date = c .before .before in
-    let fork = date .before .before .before .before .before in
+    let fork = fork-put date in
     let place = fork .before .before .before in
     let a = place .before .before .args in
     date-stores (now (a .image)) (a .e .start) _ _ (a .g) (a .changed) _ _ (place .fork-place .ensures .0) (fork .put-fork .ensures) (date .put32-at .ensures)

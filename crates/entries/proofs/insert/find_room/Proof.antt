@@ -19,20 +19,27 @@ Inv-loop image from size i₀ i = (i ≤ from .left + 1) × (any (hasRoom size) 
 abbrev μ-loop : tie.MeasureT-loop
 μ-loop image from size i₀ i = from .left + 1 - i
 
+-- the start, from the loop's test; the test, from where the block's byte is known
+abbrev start : tie.At-loop Inv-loop μ-loop → tie.Start Inv-loop μ-loop
+start l = l .before .before
+
+abbrev at-loop : tie.After-struct-known2 Inv-loop μ-loop → tie.At-loop Inv-loop μ-loop
+at-loop c = c .before .before .before
+
 loop-holds : tie.Need-loop-holds Inv-loop μ-loop
 unfolding cutBlocks any
 loop-holds c = (omega arith, refl)
 
 mul-base : tie.Need-mul-base Inv-loop μ-loop
-mul-base c = omega (arith, c .before .before .before .before .pre .0 .fits .blocks)
+mul-base c = omega (arith, start (c .before .before) .pre .0 .fits .blocks)
 
 add-base : tie.Need-add-base Inv-loop μ-loop
-add-base c = omega (arith, c .before .before .before .before .before .pre .0 .fits .blocks)
+add-base c = omega (arith, start (at-loop c) .pre .0 .fits .blocks)
 
 read-end-requires : tie.Need-read-end-requires Inv-loop μ-loop
 read-end-requires c κs =
-    let l = c .before .before .before in
-    let s = l .before .before in
+    let l = at-loop c in
+    let s = start l in
     block-of (now (s .args .image)) (s .args .from) (s .pre .0) (s .pre .1 .0) (l .loop .i) (omega arith)
 
 add-if2 : tie.Need-add-if2 Inv-loop μ-loop
@@ -41,8 +48,8 @@ add-if2 c = omega (arith, c .read-end .ensures .1)
 returns : tie.Need-returns Inv-loop μ-loop
 returns c =
     let r = c .before in
-    let l = r .before .before .before .before in
-    let s = l .before .before in
+    let l = at-loop (r .before) in
+    let s = start l in
     let b = part (s .args .from .base + 512 * l .loop .i) 512 (now (s .args .image)) in
     record {
       index = l .loop .i;
@@ -62,8 +69,8 @@ loop-less c = omega arith
 loop-again : tie.Need-loop-again Inv-loop μ-loop
 loop-again c =
     let r = c .before in
-    let l = r .before .before .before .before in
-    let s = l .before .before in
+    let l = at-loop (r .before) in
+    let s = start l in
     let b = part (s .args .from .base + 512 * l .loop .i) 512 (now (s .args .image)) in (
       omega arith,
       none-more (s .args .size) (now (s .args .image)) (s .args .from .base) (l .loop .i) (l .loop .inv .1)
@@ -73,7 +80,7 @@ loop-again c =
 returns-2 : tie.Need-returns-2 Inv-loop μ-loop
 returns-2 c =
     let l = c .before .before in
-    let s = l .before .before in
+    let s = start l in
     let all : l .loop .i ≡ s .args .from .left + 1 = omega arith in
     rw all at (l .loop .inv .1)
 

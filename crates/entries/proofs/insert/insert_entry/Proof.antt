@@ -69,8 +69,11 @@ joined s l = omega arith
 abbrev start : tie.After-put16-at → tie.Start
 start c = c .before .before .before .before
 
+abbrev flags-done : tie.After-put-bytes-arg2 → tie.After-put16-at
+flags-done c = c .before .before .before .before
+
 abbrev flags-put : tie.After-put-bytes → tie.After-put16-at
-flags-put c = c .before .before .before .before .before
+flags-put c = flags-done (c .before)
 
 abbrev finder-put : tie.After-put32-at → tie.After-put-bytes
 finder-put c = c .before .before .before .before
@@ -136,7 +139,7 @@ sixteen : (n l : ℕ) → n ≡ 16 → 2 + n ≤ 51 + l
 sixteen n l h = omega arith
 
 put-bytes-requires : tie.Need-put-bytes-requires
-put-bytes-requires c κs = inside (after-flags (c .before .before .before .before)) 2 _ (sixteen _ _ (c .put-bytes-arg2 .given .0))
+put-bytes-requires c κs = inside (after-flags (flags-done c)) 2 _ (sixteen _ _ (c .put-bytes-arg2 .given .0))
 
 add-put32-at : tie.Need-add-put32-at
 add-put32-at c = place (after-finder (c .before .before .before)) 18 (lit≤ tt)

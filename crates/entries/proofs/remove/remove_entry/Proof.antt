@@ -10,6 +10,13 @@ use Rattle.entries.proofs.remove.remove_entry.Tie as tie
 abbrev start : tie.After-entry-size → tie.Start
 start c = c .before .before .before .before
 
+-- the entry's size, from the move of the later entries; that move, from the zeros
+abbrev sized : tie.After-slide → tie.After-entry-size
+sized c = c .before .before
+
+abbrev slid : tie.After-clear-arg → tie.After-slide
+slid c = c .before .before .before
+
 -- the entry ends within the block's reading
 within : (c : tie.After-entry-size) → start c .args .e .start + c .entry-size .result ≤ start c .args .base + c .before .read-end .result
 within c =
@@ -49,7 +56,7 @@ add-clear c = search needs
 
 sub-clear : tie.Need-sub-clear
 sub-clear c =
-    let r = c .before .before .before .before .before in
+    let r = sized (slid c) in
     omega (arith, within r, r .before .read-end .ensures .1)
 
 clear-requires : tie.Need-clear-requires
@@ -61,8 +68,8 @@ same-length c = search needs
 returns : tie.Need-returns
 returns c =
     let clear = c .before .before in
-    let slide = clear .before .before .before .before in
-    let size = slide .before .before in
+    let slide = slid (clear .before) in
+    let size = sized slide in
     let s = start size in
     let a = s .args in
     let next = a .e .start + size .entry-size .result in
