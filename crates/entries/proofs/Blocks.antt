@@ -4,9 +4,8 @@ use mathlib.Core.Path.{_≡_, refl, sym, ap, _∙_}
 use mathlib.Core.Bool.{true}
 use mathlib.Core.List.{List, [], _∷_, _++_, append-assoc, append-nil}
 use native.Mathlib.Omega.{arith}
-use native.Mathlib.Numerals.{add-one}
 use lib.ListN.{length, take, drop, set, length-append, length-drop, length-replicate, getD-replicate, take-append-drop}
-use lib.Seq.{paste, paste-suc, take-paste, drop-paste, drop-drop, take-all, take-take, length-take-le, getD-drop}
+use lib.Seq.{paste, take-paste, drop-paste, drop-drop, take-all, take-take, length-take-le, getD-drop}
 use borrow.Author.Tests.{eqb-true, not-false}
 use Rattle.model.specs.Lists.{every, flat}
 use Rattle.model.specs.Bytes.{byte, zeros, part}
@@ -14,6 +13,7 @@ use Rattle.model.specs.Directory.{padded, entrySize, readAt, entries, readEnd, 
 use Rattle.model.specs.Check.{goodEntry, fires6}
 use Rattle.model.specs.Calls.{filled}
 use Rattle.model.proofs.Lists.{and-true, every-append}
+use Rattle.model.proofs.Copies.{move-byte}
 use Rattle.laws.proofs.Stores.{drop-take-add, paste-behind}
 use Rattle.laws.proofs.Block.{Clean, used-within}
 use Rattle.laws.proofs.Places.{fills, removed-bytes}
@@ -70,14 +70,14 @@ slide-byte d to from i h l =
     let e = length-drop from d in
     let old : byte (paste d to (drop from d) i) (from + i) ≡ byte (drop from d) i
     = paste-behind d to (drop from d) i (omega arith) (omega arith) (from + i) (omega arith) ∙ sym (getD-drop from d i 0) in
-    rw (old, add-one) (paste-suc d to (drop from d) i 0 (omega arith) (omega arith))
+    rw old (move-byte d (drop from d) to i (omega arith) (omega arith))
 
 -- cleared
 pub clear-byte : (d : List ℕ) (at n i : ℕ) → i < n → at + n ≤ length d → set (paste d at (zeros n) i) (at + i) 0 ≡ paste d at (zeros n) (i + 1)
 clear-byte d at n i h l =
     let z : byte (zeros n) i ≡ 0 = getD-replicate n i 0 0 h in
     let e = length-replicate {A = ℕ} n 0 in
-    ap (set (paste d at (zeros n) i) (at + i)) (sym z) ∙ rw add-one (paste-suc d at (zeros n) i 0 (omega arith) (omega arith))
+    ap (set (paste d at (zeros n) i) (at + i)) (sym z) ∙ move-byte d (zeros n) at i (omega arith) (omega arith)
 
 -- ---- a part stored and cleared behind, as one block
 
