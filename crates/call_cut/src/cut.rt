@@ -2,8 +2,8 @@
 ghost use Rattle.model.specs.Calls.{Call, Does};
 ghost use Rattle.files.specs.Lookup.{Readable};
 ghost use Rattle.files.specs.Told.{toldNumber};
-use files::Named;
-use files::changeable;
+use files::NamedFork;
+use files::changeable_fork;
 use model::Fork;
 use model::VolumeFacts;
 
@@ -19,13 +19,9 @@ pub fn serve_cut(
     requires { ⌜ Readable f (now image) ⌝ }
     ensures { λ r. ⌜ Does (Call.cut (now (name .entry)) fork size changed) (now (image .entry)) (toldNumber r) (now (image .exit)) ⌝ }
 {
-    match changeable(image, f, name) {
-        Named::Refused(number) => number,
-        Named::At(_, e) => {
-            let g = directory::read_fork(image, e, fork);
-            if (g.logical as u64) < size {
-                return 16;
-            }
+    match changeable_fork(image, f, name, fork, size) {
+        NamedFork::Refused(number) => number,
+        NamedFork::At(e, g) => {
             crate::shorten::shorten_fork(image, f, e, fork, g, size as u32, changed);
             0
         }

@@ -24,6 +24,6 @@ pub delete-done : {f : VolumeFacts} {image : List ℕ} (r : Readable f image) �
     → (left : List ℕ) → Deleted f image e left → Does (delete name) image (toldNumber 0) left
 unfolding change
 delete-done {f} {image} r octets {name} fits {place} {e} h left s =
-    done r octets (delete-changing image name) fits h refl left
+    done r octets (delete-changing image name) fits h refl refl left
     (s (record { readable = r; name = name; place = place; found = h .found })
     ∙ (λ i. deleted (r .facts i) image name (named-bytes r (h .found) i)))

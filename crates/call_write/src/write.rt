@@ -2,8 +2,8 @@
 ghost use Rattle.model.specs.Calls.{Call, Does};
 ghost use Rattle.files.specs.Lookup.{Readable};
 ghost use Rattle.files.specs.Told.{toldNumber};
-use files::Named;
-use files::changeable;
+use files::NamedFork;
+use files::changeable_fork;
 use forks::new_blocks;
 use model::Fork;
 use model::VolumeFacts;
@@ -21,13 +21,9 @@ pub fn serve_write(
     requires { ⌜ Readable f (now image) ⌝ }
     ensures { λ r. ⌜ Does (Call.write (now (name .entry)) fork offset (now (bytes .entry)) changed) (now (image .entry)) (toldNumber r) (now (image .exit)) ⌝ }
 {
-    match changeable(image, f, name) {
-        Named::Refused(number) => number,
-        Named::At(_, e) => {
-            let g = directory::read_fork(image, e, fork);
-            if (g.logical as u64) < offset {
-                return 16;
-            }
+    match changeable_fork(image, f, name, fork, offset) {
+        NamedFork::Refused(number) => number,
+        NamedFork::At(e, g) => {
             let at = offset as usize;
             let new = new_blocks(f, g, at, bytes.len());
             if new.number != 0 {

@@ -1,8 +1,9 @@
--- What a name given to a call names, and which of its files a call may change.
-use Prim.Native.Nat.{ℕ, _*_}
+-- What a name given to a call names, and which files and forks a call may change.
+use Prim.Native.Nat.{ℕ, _*_, _≤_}
 use mathlib.Core.Path.{_≡_}
-use mathlib.Core.Bool.{false, not}
+use mathlib.Core.Bool.{Bool, false, not}
 use mathlib.Core.List.{List}
+use lib.Dec.{ltb}
 use Rattle.model.specs.Bytes.{byte}
 use Rattle.model.specs.Facts.{factsOf, dirStart, dirLength, isLocked}
 use Rattle.model.specs.Lists.{any}
@@ -17,6 +18,8 @@ use Rattle.model.specs.declared.Fork.{Fork}
 use Rattle.model.specs.declared.ForkFacts.{ForkFacts}
 use Rattle.files.specs.declared.Named.{Named}
 use Rattle.files.specs.declared.Named.the-variants.{At, Refused}
+use Rattle.files.specs.declared.NamedFork.{NamedFork}
+use Rattle.files.specs.declared.NamedFork.the-variants as variant
 
 -- an accepted image and its facts
 pub record Readable (f : VolumeFacts) (image : List ℕ) : Type 0 where
@@ -44,20 +47,36 @@ pub record Changeable (image name : List ℕ) (place : ℕ) (e : EntryAt) : Type
   pub found : NamedEntry image name place e
   pub unlocked : flagsLock (byte (bytesAt image e) 0) ≡ false
 
--- 11, 12, 13 and 15, which a call that changes the file of a name begins with, then the rest
-abbrev pub begins : List ℕ → List ℕ → ℕ → ℕ
-begins image name rest =
+-- 11, 12, 13, 15 and, beyond a fork's end, 16, which a call that changes the file of a name begins with, then the rest
+abbrev pub begins : List ℕ → List ℕ → Bool → ℕ → ℕ
+begins image name beyond rest =
     orElse (isLocked (factsOf image)) 11 (orElse (badName name) 12 (orElse (not (any (named name) (directory image))) 13
-    (orElse (flagsLock (byte (entryNamed name image) 0)) 15 rest)))
+    (orElse (flagsLock (byte (entryNamed name image) 0)) 15 (orElse beyond 16 rest))))
 
 -- one of them
-pub record Barred (image name : List ℕ) (number : ℕ) : Type 0 where
-  pub fires : number ≡ begins image name 0
+pub record Barred (image name : List ℕ) (beyond : Bool) (number : ℕ) : Type 0 where
+  pub fires : number ≡ begins image name beyond 0
   pub some : number ≡ 0 → ⊥
 
+-- a call that asks for no fork has no 16
 abbrev pub MayChange : List ℕ → List ℕ → Named → Type 0
 MayChange image name (At place e) = Changeable image name place e
-MayChange image name (Refused number) = Barred image name number
+MayChange image name (Refused number) = Barred image name false number
+
+-- the offset is beyond the end of the fork of a name
+abbrev pub beyondEnd : List ℕ → List ℕ → Fork → ℕ → Bool
+beyondEnd image name fork offset = ltb (forkOf fork (entryNamed name image) .logical) offset
+
+-- the fork of a file that may be changed, and the offset is not beyond its end
+pub record ChangeableFork (image name : List ℕ) (fork : Fork) (offset : ℕ) (e : EntryAt) (g : ForkFacts) : Type 0 where
+  pub place : ℕ
+  pub file : Changeable image name place e
+  pub is : g ≡ forkOf fork (bytesAt image e)
+  pub within : offset ≤ g .logical
+
+abbrev pub MayChangeFork : List ℕ → List ℕ → Fork → ℕ → NamedFork → Type 0
+MayChangeFork image name fork offset (variant.At e g) = ChangeableFork image name fork offset e g
+MayChangeFork image name fork offset (variant.Refused number) = Barred image name (beyondEnd image name fork offset) number
 
 -- e is the entry of a name in an accepted image, whose facts are f
 pub record FileAt (f : VolumeFacts) (image : List ℕ) (e : EntryAt) : Type 0 where

@@ -9,14 +9,22 @@ use directory::EntryAt;
 pub use locks::is_locked;
 use model::AllocationBlock;
 use model::DirectoryEntry;
+use model::ForkFacts;
 use model::VolumeFacts;
 pub use searching::changeable;
+pub use searching::changeable_fork;
 pub use searching::first_entry;
 pub use searching::lookup;
 
 // What a name given to a call names: an entry with its place in directory order, or the number of the refusal.
 pub enum Named {
     At(usize, EntryAt),
+    Refused(u8),
+}
+
+// What a name and a fork given to a call name: the file's entry with the fork's facts, or the number of the refusal.
+pub enum NamedFork {
+    At(EntryAt, ForkFacts),
     Refused(u8),
 }
 

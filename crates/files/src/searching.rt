@@ -1,13 +1,15 @@
-// From a name to its entry: refusals 12 and 13, and for a call that changes the file 11 and 15 too.
+// From a name to its entry: refusals 12 and 13, for a call that changes the file 11 and 15 too, and 16 for one that changes a fork.
 ghost use Prim.Native.Nat.{_≤_};
 ghost use Rattle.model.specs.Facts.{dirStart, dirLength};
 ghost use Rattle.directory.specs.Cursor.{Begins};
-ghost use Rattle.files.specs.Lookup.{Readable, Names, MayChange};
+ghost use Rattle.files.specs.Lookup.{Readable, Names, MayChange, MayChangeFork};
 use crate::Named;
+use crate::NamedFork;
 use crate::locks::file_locked;
 use crate::locks::is_locked;
 use directory::Cursor;
 use directory::Found;
+use model::Fork;
 use model::VolumeFacts;
 
 // At the first entry of the volume's directory.
@@ -51,6 +53,29 @@ pub fn changeable(image: &[u8], f: VolumeFacts, name: &[u8]) -> Named
                 return Named::Refused(15);
             }
             Named::At(place, e)
+        }
+    }
+}
+
+// The fork of the name for a call that changes it from the offset on.
+pub fn changeable_fork(
+    image: &[u8],
+    f: VolumeFacts,
+    name: &[u8],
+    fork: Fork,
+    offset: u64,
+) -> NamedFork
+    requires { ⌜ Readable f (now image) ⌝ }
+    ensures { λ r. ⌜ MayChangeFork (now (image .entry)) (now (name .entry)) fork offset r ⌝ }
+{
+    match changeable(image, f, name) {
+        Named::Refused(number) => NamedFork::Refused(number),
+        Named::At(_, e) => {
+            let g = directory::read_fork(image, e, fork);
+            if (g.logical as u64) < offset {
+                return NamedFork::Refused(16);
+            }
+            NamedFork::At(e, g)
         }
     }
 }
