@@ -7,12 +7,26 @@ use borrow.Author.Needs.{needs}
 use Rattle.call_create.proofs.add.add_file.Statement.{statement}
 use Rattle.call_create.proofs.add.add_file.Tie as tie
 
+-- ---- landmarks
+
+abbrev start : tie.After-insert-entry-arg → tie.Start
+start c = c .before .before .before .before
+
+-- the entry was put in, at the two counts' stores
+abbrev put-in : tie.After-put-next → tie.After-insert-entry
+put-in c = c .before .before .before .before
+
+abbrev numbered : tie.After-struct-known → tie.After-put-next
+numbered c = c .before .before .before .before
+
+-- ---- the needs
+
 whole-requires : tie.Need-whole-requires
 whole-requires c κs = search needs
 
 insert-entry-requires : tie.Need-insert-entry-requires
 insert-entry-requires c κs =
-    let s = c .before .before .before .before in
+    let s = start c in
     let a = s .args in (
       adds-block (s .pre .0) (length (now (a .name))) (a .base) (a .end) (s .pre .1),
       adds-behind (s .pre .0) (length (now (a .name))) (a .base) (a .end) (s .pre .1),
@@ -25,7 +39,7 @@ put-next-requires : tie.Need-put-next-requires
 put-next-requires c κs = search needs
 
 add-put-files : tie.Need-add-put-files
-add-put-files c = omega (arith, files-more (c .before .before .before .before .before .before .before .before .before .before .before .before .before .pre .0))
+add-put-files c = omega (arith, files-more (start (put-in (numbered c) .before) .pre .0))
 
 put-files-requires : tie.Need-put-files-requires
 put-files-requires c κs = search needs
@@ -36,12 +50,12 @@ same-length c = search needs
 returns : tie.Need-returns
 returns c =
     let files = c .before .before in
-    let next = files .before .before .before .before .before in
-    let entry = next .before .before .before .before in
-    let whole = entry .before .before in
-    let s = whole .before .before .before in
+    let next = numbered (files .before) in
+    let entry = put-in next in
+    let arg = entry .before in
+    let s = start arg in
     let a = s .args in
-    added (s .pre .0) (now (a .name)) (now (a .finder)) (a .created) (a .changed) (a .base) (a .end) (s .pre .1) (whole .whole .ensures .0) _ _ _
+    added (s .pre .0) (now (a .name)) (now (a .finder)) (a .created) (a .changed) (a .base) (a .end) (s .pre .1) (arg .before .whole .ensures .0) _ _ _
     (entry .insert-entry .ensures) (next .put-next .ensures) (files .put-files .ensures)
 
 pub add-file-spec : {M : Type 1} → statement M

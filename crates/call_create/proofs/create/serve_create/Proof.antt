@@ -20,52 +20,70 @@ use Rattle.call_create.proofs.create.serve_create.Tie as tie
 
 -- ---- what is known on the way
 
-image-octets : (c : tie.After-whole) → Bytes (now (c .before .before .before .args .image))
-image-octets c = octets _ (c .before .before .slice-known .given)
+-- the arguments
+module _ (c : tie.After-whole) where
+  abbrev start : tie.Start
+  start = c .before .before .before
 
-fits : (c : tie.After-whole) → Fits (create (now (c .before .before .before .args .name)) (now (c .before .before .before .args .finder))
-    (c .before .before .before .args .created) (c .before .before .before .args .changed))
-unfolding Fits
-fits c =
-    let s = c .before .before .before in (
-      octets _ (c .before .shared-slice-known .given),
-      c .whole .ensures .1,
-      c .whole .ensures .0,
-      omega (arith, s .fits .created),
-      omega (arith, s .fits .changed),
-    )
+  image-octets : Bytes (now (start .args .image))
+  image-octets = octets _ (c .before .before .slice-known .given)
 
-unlocked : (c : tie.Else1) → isLocked (c .before .before .before .before .before .args .f) ≡ false
+  fits : Fits (create (now (start .args .name)) (now (start .args .finder)) (start .args .created) (start .args .changed))
+  unfolding Fits
+  fits = (
+    octets _ (c .before .shared-slice-known .given),
+    c .whole .ensures .1,
+    c .whole .ensures .0,
+    omega (arith, start .fits .created),
+    omega (arith, start .fits .changed),
+  )
+
+-- behind the volume's lock
+abbrev at-whole : tie.Else1 → tie.After-whole
+at-whole c = c .before .before
+
+unlocked : (c : tie.Else1) → isLocked (start (at-whole c) .args .f) ≡ false
 unlocked c = sym (c .before .is-locked .ensures) ∙ c .if1 .left
 
+abbrev at-lookup : tie.After-number → tie.After-lookup
+at-lookup c = c .before .before
+
 -- the name is new
-abbrev entry : tie.Else2 → tie.Else1
-entry c = c .before .before .before .before .before .before
+module _ (c : tie.Else2) where
+  abbrev writable : tie.Else1
+  writable = at-lookup (c .before .before) .before .before
 
-abbrev start : tie.Else2 → tie.Start
-start c = entry c .before .before .before .before .before
+  abbrev first : tie.Start
+  first = start (at-whole writable)
 
-new : (c : tie.Else2) → Fresh (now (start c .args .image)) (now (start c .args .name))
-new c =
-    let n = c .before .before in
-    let l = n .before .before in
-    fresh _ _ _
-    (names-none (now (start c .args .image)) (now (start c .args .name)) (l .lookup .result) (l .lookup .ensures) _ (n .number .given .1))
-    (c .if2 .left)
+  new : Fresh (now (first .args .image)) (now (first .args .name))
+  new =
+      let n = c .before .before in
+      let l = at-lookup n in
+      fresh _ _ _
+      (names-none (now (first .args .image)) (now (first .args .name)) (l .lookup .result) (l .lookup .ensures) _ (n .number .given .1))
+      (c .if2 .left)
+
+-- 19 is past
+abbrev past-19 : tie.After-first-entry → tie.Else3
+past-19 c = c .before .before
+
+abbrev fresh-at : tie.After-first-entry → tie.Else2
+fresh-at c = past-19 c .before .before
 
 -- there is room
-abbrev fresh-at : tie.After-find-room → tie.Else2
-fresh-at c = c .before .before .before .before .before .before
+abbrev at-first : tie.After-find-room → tie.After-first-entry
+at-first c = c .before .before
 
-adds-there : (c : tie.After-base) → Adds (start (fresh-at (c .before .before)) .args .f) (now (start (fresh-at (c .before .before)) .args .image))
-    (length (now (start (fresh-at (c .before .before)) .args .name))) (c .base .given .0 .0) (c .base .given .0 .1 .0)
+adds-there : (c : tie.After-base) → let a = first (fresh-at (at-first (c .before .before))) .args in
+    Adds (a .f) (now (a .image)) (length (now (a .name))) (c .base .given .0 .0) (c .base .given .0 .1 .0)
 adds-there c =
     let r = c .before .before in
     let z = r .before in
-    let e = z .before in
-    let k = e .before .before in
-    let s = start (fresh-at r) in
-    let title = fresh-title _ _ (new (fresh-at r)) in
+    let e = at-first r in
+    let k = past-19 e in
+    let s = first (fresh-at e) in
+    let title = fresh-title _ _ (new (fresh-at e)) in
     adds (s .args .f) (now (s .args .image)) (e .first-entry .result) (e .first-entry .ensures) (length (now (s .args .name)))
     (z .entry-size .result) (z .entry-size .ensures) _ _
     (room-at _ _ _ _ (r .find-room .result) (r .find-room .ensures) _ _ (c .base .given .1)) (title .some) (title .short)
@@ -83,8 +101,7 @@ returns : tie.Need-returns
 returns c =
     let k = c .before in
     let w = k .before in
-    let s = w .before .before .before in
-    create-locked (s .pre) (image-octets w) _ _ _ _ (fits w) (sym (k .is-locked .ensures) ∙ c .if1 .taken)
+    create-locked (start w .pre) (image-octets w) _ _ _ _ (fits w) (sym (k .is-locked .ensures) ∙ c .if1 .taken)
 
 lookup-requires : tie.Need-lookup-requires
 lookup-requires c κs = search needs
@@ -101,10 +118,10 @@ same-length c = search needs
 returns-2 : tie.Need-returns-2
 returns-2 c =
     let n = c .before .before in
-    let l = n .before .before in
+    let l = at-lookup n in
     let e = l .before .before in
-    let w = e .before .before in
-    let s = w .before .before .before in
+    let w = at-whole e in
+    let s = start w in
     create-untitled (s .pre) (image-octets w) _ _ _ _ (fits w) (unlocked e) _
     (names-none (now (s .args .image)) (now (s .args .name)) (l .lookup .result) (l .lookup .ensures) _ (n .number .given .1)) (c .if2 .taken)
 
@@ -114,22 +131,22 @@ same-length-2 c = search needs
 returns-3 : tie.Need-returns-3
 returns-3 c =
     let k = c .before .before in
-    let e = entry k in
-    let w = e .before .before in
-    create-last (start k .pre) (image-octets w) _ _ _ _ (fits w) (unlocked e) (new k) (c .if3 .taken)
+    let e = writable k in
+    let w = at-whole e in
+    create-last (start w .pre) (image-octets w) _ _ _ _ (fits w) (unlocked e) (new k) (c .if3 .taken)
 
 first-entry-requires : tie.Need-first-entry-requires
-first-entry-requires c κs = some-block (start (c .before .before .before) .pre)
+first-entry-requires c κs = some-block (first (c .before .before .before) .pre)
 
 entry-size-requires : tie.Need-entry-size-requires
-entry-size-requires c κs = fresh-title _ _ (new (c .before .before .before .before)) .short
+entry-size-requires c κs = fresh-title _ _ (new (fresh-at c)) .short
 
 find-room-requires : tie.Need-find-room-requires
 unfolding padded
 find-room-requires c κs =
     let e = c .before in
-    let k = e .before .before .before .before in (
-      first-passes (start k .pre) (e .first-entry .result) (e .first-entry .ensures),
+    let k = fresh-at e in (
+      first-passes (first k .pre) (e .first-entry .result) (e .first-entry .ensures),
       (e .first-entry .ensures .at, omega (arith, c .entry-size .ensures, fresh-title _ _ (new k) .short)),
     )
 
@@ -140,7 +157,7 @@ enum-known-base : tie.Need-enum-known-base
 enum-known-base c = search needs
 
 add-file-requires : tie.Need-add-file-requires
-add-file-requires c κs = let b = c .before .before in (start (fresh-at (b .before .before)) .pre, adds-there b)
+add-file-requires c κs = let b = c .before .before in (first (fresh-at (at-first (b .before .before))) .pre, adds-there b)
 
 same-length-3 : tie.Need-same-length-3
 same-length-3 c = search needs
@@ -149,8 +166,8 @@ returns-4 : tie.Need-returns-4
 returns-4 c =
     let l = c .before .before in
     let e = l .before .before in
-    let w = e .before .before in
-    let s = w .before .before .before in
+    let w = at-whole e in
+    let s = start w in
     create-exists (s .pre) (image-octets w) _ _ _ _ (fits w) (unlocked e) _ _
     (names-file (now (s .args .image)) (now (s .args .name)) (l .lookup .result) (l .lookup .ensures) _ _ (c .enum-told .given .1))
 
@@ -161,11 +178,11 @@ returns-5 : tie.Need-returns-5
 returns-5 c =
     let r = c .before .before in
     let z = r .before in
-    let f = z .before in
-    let k = fresh-at r in
-    let e = entry k in
-    let w = e .before .before in
-    create-full (start k .pre) (image-octets w) _ _ _ _ (fits w) (unlocked e) (new k) (f .before .before .if3 .left)
+    let f = at-first r in
+    let k = fresh-at f in
+    let e = writable k in
+    let w = at-whole e in
+    create-full (start w .pre) (image-octets w) _ _ _ _ (fits w) (unlocked e) (new k) (past-19 f .if3 .left)
     (f .first-entry .result) (f .first-entry .ensures) (z .entry-size .result) (z .entry-size .ensures)
     (room-none _ _ _ _ (r .find-room .result) (r .find-room .ensures) (c .enum-told2 .given .1))
 
@@ -176,11 +193,11 @@ returns-6 : tie.Need-returns-6
 returns-6 c =
     let a = c .before .before in
     let b = a .before .before .before in
-    let r = b .before .before in
-    let k = fresh-at r in
-    let e = entry k in
-    let w = e .before .before in
-    create-served (start k .pre) (image-octets w) _ _ _ _ (fits w) (unlocked e) (new k) (r .before .before .before .before .if3 .left)
+    let f = at-first (b .before .before) in
+    let k = fresh-at f in
+    let e = writable k in
+    let w = at-whole e in
+    create-served (start w .pre) (image-octets w) _ _ _ _ (fits w) (unlocked e) (new k) (past-19 f .if3 .left)
     _ _ (adds-there b) _ (a .add-file .ensures)
 
 pub serve-create-spec : {M : Type 1} → statement M

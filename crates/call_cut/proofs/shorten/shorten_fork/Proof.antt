@@ -96,18 +96,22 @@ store-fork-requires c κs =
 abbrev at-join : tie.After-store-fork → tie.Joined1
 at-join c = c .before .before
 
+-- they were stored, at the store of the free count
+abbrev stored : tie.After-struct-known → tie.After-store-fork
+stored c = c .before .before .before .before
+
 sub-put-free : tie.Need-sub-put-free
 sub-put-free c = within (kept (at-map (at-join (c .before .before .before))))
 
 add-put-free : tie.Need-add-put-free
 add-put-free c =
-    let d = kept (at-map (at-join (c .before .before .before .before))) in
+    let d = kept (at-map (at-join (stored c))) in
     let s = start (d .before) in
     omega (arith, has-is (d .before), d .fewest-blocks .ensures, free-small (s .pre .0) (s .args .size) (s .pre .1))
 
 put-free-requires : tie.Need-put-free-requires
 put-free-requires c κs =
-    let t = c .before .before .before .before in
+    let t = stored c in
     let k = at-map (at-join t) in
     let s = start (kept k .before) in
     omega (arith, t .store-fork .kept .0, k .shorten .kept .0, long-image (s .pre .0 .held .readable))
@@ -118,7 +122,7 @@ same-length c = search needs
 returns : tie.Need-returns
 returns c =
     let p = c .before .before in
-    let t = p .before .before .before .before .before in
+    let t = stored (p .before) in
     let j = at-join t in
     let k = at-map j in
     let d = kept k in

@@ -46,11 +46,11 @@ read-fork-requires-2 c κs = search needs
 
 -- both forks' blocks and the free ones
 module _ (c : tie.After-read-fork2) where
-  abbrev start : tie.Start
-  start = c .before .before .before .before .before
-
   abbrev data-read : tie.After-read-fork
   data-read = c .before .before
+
+  abbrev start : tie.Start
+  start = data-read .before .before .before
 
   small : freeCount (start .args .f) + data-read .read-fork .result .physical / A (start .args .f) + c .read-fork2 .result .physical / A (start .args .f)
       ≤ 640
@@ -125,9 +125,12 @@ free-chain-requires-2 c κs =
 sub-base : tie.Need-sub-base
 sub-base c = rest-below _
 
+abbrev second : tie.After-remove-entry-arg → tie.After-free-chain2
+second c = c .before .before .before .before .before
+
 remove-entry-requires : tie.Need-remove-entry-requires
 remove-entry-requires c κs =
-    let y = c .before .before .before .before .before in
+    let y = second c in
     let x = first y in
     let b = forks (counts x) in
     let h = start b .pre in
@@ -142,64 +145,68 @@ remove-entry-requires c κs =
 
 -- ---- behind the entry
 
-abbrev second : tie.After-remove-entry → tie.After-free-chain2
-second c = c .before .before .before .before .before .before
+-- it was taken out, at the store of the number of files
+module _ (c : tie.After-struct-known3) where
+  abbrev taken : tie.After-remove-entry
+  taken = c .before .before .before .before
+
+  abbrev both : tie.After-free-chain2
+  both = second (taken .before)
+
+  abbrev freed : tie.After-free-chain
+  freed = first both
 
 sub-put-files : tie.Need-sub-put-files
-sub-put-files c = some-file (start (forks (counts (first (second (c .before .before .before .before))))) .pre)
+sub-put-files c = some-file (start (forks (counts (freed c))) .pre)
 
 put-files-requires : tie.Need-put-files-requires
 put-files-requires c κs =
-    let z = c .before .before .before .before in
-    let y = second z in
-    let x = first y in
-    long _ _ (z .remove-entry .kept .0 ∙ y .free-chain2 .kept .0 ∙ x .free-chain .kept .0) (long-image (start (forks (counts x)) .pre .readable))
+    long _ _ (taken c .remove-entry .kept .0 ∙ both c .free-chain2 .kept .0 ∙ freed c .free-chain .kept .0)
+    (long-image (start (forks (counts (freed c))) .pre .readable))
 
 -- at the last store
 module _ (c : tie.After-struct-known4) where
   abbrev files : tie.After-put-files
   files = c .before .before .before .before
 
-  abbrev taken : tie.After-remove-entry
-  taken = files .before .before .before .before .before
+  abbrev at-files : tie.After-struct-known3
+  at-files = files .before
 
-  abbrev freed : tie.After-free-chain
-  freed = first (second taken)
-
-  free-is : let k = counts freed in let f = start (forks k) .args .f in
+  free-is : let k = counts (freed at-files) in let f = start (forks k) .args .f in
       freeCount f + k .before .block-count .result + k .block-count2 .result
       ≡ freeCount f + data-read (forks k) .read-fork .result .physical / A f + forks k .read-fork2 .result .physical / A f
-  free-is = let k = counts freed in λ i. freeCount (start (forks k) .args .f) + data-is (k .before) i + resource-is k i
+  free-is = let k = counts (freed at-files) in λ i. freeCount (start (forks k) .args .f) + data-is (k .before) i + resource-is k i
 
 add-put-free : tie.Need-add-put-free
-add-put-free c = let k = counts (freed c) in rw (data-is (k .before)) (two-fit _ _ _ (small (forks k)))
+add-put-free c = let k = counts (freed (at-files c)) in rw (data-is (k .before)) (two-fit _ _ _ (small (forks k)))
 
 add-put-free-2 : tie.Need-add-put-free-2
-add-put-free-2 c = rw (free-is c) (all-fit _ _ _ (small (forks (counts (freed c)))))
+add-put-free-2 c = rw (free-is c) (all-fit _ _ _ (small (forks (counts (freed (at-files c))))))
 
 put-free-requires : tie.Need-put-free-requires
 put-free-requires c κs =
-    let y = second (taken c) in
-    long _ _ (files c .put-files .kept .0 ∙ taken c .remove-entry .kept .0 ∙ y .free-chain2 .kept .0 ∙ freed c .free-chain .kept .0)
-    (long-image (start (forks (counts (freed c))) .pre .readable))
+    let k = at-files c in
+    long _ _ (files c .put-files .kept .0 ∙ taken k .remove-entry .kept .0 ∙ both k .free-chain2 .kept .0 ∙ freed k .free-chain .kept .0)
+    (long-image (start (forks (counts (freed k))) .pre .readable))
 
 same-length : tie.Need-same-length
 same-length c =
     let v = c .before .before in
-    let k = v .before in
-    let y = second (taken k) in
-    v .put-free .kept .0 ∙ files k .put-files .kept .0 ∙ taken k .remove-entry .kept .0 ∙ y .free-chain2 .kept .0 ∙ freed k .free-chain .kept .0
+    let k = at-files (v .before) in
+    v .put-free .kept .0 ∙ files (v .before) .put-files .kept .0 ∙ taken k .remove-entry .kept .0 ∙ both k .free-chain2 .kept .0
+    ∙ freed k .free-chain .kept .0
 
 returns : tie.Need-returns
 returns c =
     let v = c .before .before in
-    let k = v .before in
+    let n = v .before in
+    let k = at-files n in
     let x = freed k in
     let b = forks (counts x) in
     let a = data-read b in
     delete-leaves (start b .pre) (a .read-fork .result) (b .read-fork2 .result) (a .read-fork .ensures) (b .read-fork2 .ensures)
-    _ (data-freed x) _ (both-freed (second (taken k))) _ _ _ _
-    (taken k .remove-entry .ensures) (files k .put-files .ensures) (free-is k) (v .put-free .ensures)
+    _ (data-freed x) _ (both-freed (both k)) _ _ _ _
+    (taken k .remove-entry .ensures) (files n .put-files .ensures) (free-is n) (v .put-free .ensures)
 
 pub take-file-spec : {M : Type 1} → statement M
 take-file-spec =

@@ -65,8 +65,8 @@ filled c = c .before .before .before .before
 abbrev sized : tie.After-store-fork → tie.After-larger
 sized c = c .before .before
 
-abbrev entered : tie.After-put-free → tie.After-store-fork
-entered c = c .before .before .before .before .before
+abbrev entered : tie.After-struct-known2 → tie.After-store-fork
+entered c = c .before .before .before .before
 
 -- from the count and from the length on
 abbrev first : tie.After-fill-fork → tie.Start
@@ -176,25 +176,25 @@ store-fork-requires c κs =
     (s .args .offset) (now (s .args .bytes)) (s .pre .1 .0) (s .pre .1 .1) (x .fill-fork .last .0) (stored x)
 
 sub-put-free : tie.Need-sub-put-free
-sub-put-free c = origin (sized (c .before .before .before .before)) .pre .1 .2
+sub-put-free c = origin (sized (entered c)) .pre .1 .2
 
 put-free-requires : tie.Need-put-free-requires
 put-free-requires c κs =
-    let y = c .before .before .before .before in
+    let y = entered c in
     let x = filled (sized y) in
     long _ _ (y .store-fork .kept .0 ∙ x .fill-fork .kept .0 ∙ grown x .extend .kept .0) (long-image (held (first x) .readable))
 
 same-length : tie.Need-same-length
 same-length c =
     let z = c .before .before in
-    let y = entered z in
+    let y = entered (z .before) in
     let x = filled (sized y) in
     z .put-free .kept .0 ∙ y .store-fork .kept .0 ∙ x .fill-fork .kept .0 ∙ grown x .extend .kept .0
 
 returns : tie.Need-returns
 returns c h =
     let z = c .before .before in
-    let y = entered z in
+    let y = entered (z .before) in
     let v = sized y in
     let x = filled v in
     let w = grown x in
