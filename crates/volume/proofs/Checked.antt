@@ -62,7 +62,7 @@ refusal-check : (image : List ℕ) → refusal check image ≡ verdict image
 unfolding refusal refuses
 refusal-check image = first-alone (verdict image)
 
-module _ (image : List ℕ) (r : CheckAnswer) (left : List ℕ) (d : Does check image (toldCheck r) left) where
+module _ {image : List ℕ} (r : CheckAnswer) {left : List ℕ} (d : Does check image (toldCheck r) left) where
   -- its number is that of the first check that fires
   pub number-is : r .number ≡ verdict image
   unfolding answer reply tellsFacts only

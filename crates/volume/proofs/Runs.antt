@@ -23,10 +23,10 @@ happens {call} {image} {o} {buffer} {after} {left} d b = record {
 }
 
 -- a read, whose buffer is lent whole
-pub read-happens : {image name : List ℕ} {fork : Fork} {place : ℕ} {r : ReadAnswer} (buffer : List ℕ) {after left : List ℕ} → length after ≡ length buffer
+pub read-happens : {image name : List ℕ} {fork : Fork} {place : ℕ} {r : ReadAnswer} {buffer after left : List ℕ} → length after ≡ length buffer
     → Does (read name fork place buffer) image (toldRead r after) left → Happens (read name fork place buffer) image (fromRead r) buffer after left
 unfolding lent
-read-happens {image} {name} {fork} {place} {r} buffer {after} {left} l d =
+read-happens {buffer = buffer} {after = after} l d =
     let all : length after ≤ length buffer = omega arith in
     let none : length buffer ≤ length buffer = omega arith in
     happens (rw (take-all (length buffer) after all) d) (rw (drop-of-length-le after all, drop-of-length-le buffer none))

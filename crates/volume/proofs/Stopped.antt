@@ -15,49 +15,50 @@ use Rattle.files.specs.Told.{toldCheck, toldEntry, toldFind, toldBlock, toldRea
 use Rattle.volume.proofs.Checked.{number-is}
 
 -- what check answered: a number other than 0
-module _ (image : List ℕ) (r : CheckAnswer) (d : Does check image (toldCheck r) image) (z : r .number ≡ 0 → ⊥) where
+module _ {image : List ℕ} (r : CheckAnswer) (d : Does check image (toldCheck r) image) (z : r .number ≡ 0 → ⊥) where
   abbrev n : ℕ
   n = r .number
 
   -- each call answers that number and leaves the image
   stop : (call : Call) → Fits call → Does call image (only n (lent call)) image
-  stop call fits = does-refuse call image n (d .bytes) fits (by-volume call image n (number-is image r image d) z) z
+  stop call fits = does-refuse call image n (d .bytes) fits (by-volume call image n (number-is r d) z) z
 
-  pub entry-stopped : (place : ℕ) (e : DirectoryEntry) → place < 2 ^ 64 → e ≡ noEntry
+  pub entry-stopped : {place : ℕ} {e : DirectoryEntry} → place < 2 ^ 64 → e ≡ noEntry
       → Does (entry place) image (toldEntry (record { number = n; entry = e })) image
   unfolding Fits only lent
-  entry-stopped place e fits q = rw q (stop (entry place) fits)
+  entry-stopped {place} fits q = rw q (stop (entry place) fits)
 
-  pub find-stopped : (name : List ℕ) (e : DirectoryEntry) → Bytes name → e ≡ noEntry
+  pub find-stopped : {name : List ℕ} {e : DirectoryEntry} → Bytes name → e ≡ noEntry
       → Does (find name) image (toldFind (record { number = n; place = 0; entry = e })) image
   unfolding Fits only lent
-  find-stopped name e fits q = rw q (stop (find name) fits)
+  find-stopped {name} fits q = rw q (stop (find name) fits)
 
-  pub block-stopped : (name : List ℕ) (fork : Fork) (place : ℕ) → Bytes name → place < 2 ^ 64
+  pub block-stopped : {name : List ℕ} {fork : Fork} {place : ℕ} → Bytes name → place < 2 ^ 64
       → Does (block name fork place) image (toldBlock (record { number = n; block = record { 0 = 0 } })) image
   unfolding Fits only lent
-  block-stopped name fork place letters fits = stop (block name fork place) (letters, fits)
+  block-stopped {name} {fork} {place} letters fits = stop (block name fork place) (letters, fits)
 
-  pub read-stopped : (name : List ℕ) (fork : Fork) (offset : ℕ) (buffer : List ℕ) → Bytes name → offset < 2 ^ 64 → Bytes buffer
+  pub read-stopped : {name : List ℕ} {fork : Fork} {offset : ℕ} {buffer : List ℕ} → Bytes name → offset < 2 ^ 64 → Bytes buffer
       → Does (read name fork offset buffer) image (toldRead (record { number = n; count = 0 }) buffer) image
   unfolding Fits only lent
-  read-stopped name fork offset buffer letters fits room = stop (read name fork offset buffer) (letters, fits, room)
+  read-stopped {name} {fork} {offset} {buffer} letters fits room = stop (read name fork offset buffer) (letters, fits, room)
 
-  pub create-stopped : (name finder : List ℕ) (created changed : ℕ) → Bytes name → Bytes finder → length finder ≡ 16 → created < 2 ^ 32 → changed < 2 ^ 32
+  pub create-stopped : {name finder : List ℕ} {created changed : ℕ} → Bytes name → Bytes finder → length finder ≡ 16 → created < 2 ^ 32 → changed < 2 ^ 32
       → Does (create name finder created changed) image (toldNumber n) image
   unfolding Fits lent
-  create-stopped name finder created changed letters octets long made fits = stop (create name finder created changed) (letters, octets, long, made, fits)
+  create-stopped {name} {finder} {created} {changed} letters octets long made fits = stop (create name finder created changed) (letters, octets, long, made, fits)
 
-  pub write-stopped : (name : List ℕ) (fork : Fork) (offset : ℕ) (bytes : List ℕ) (changed : ℕ) → Bytes name → offset < 2 ^ 64 → Bytes bytes → changed < 2 ^ 32
+  pub write-stopped : {name : List ℕ} {fork : Fork} {offset : ℕ} {bytes : List ℕ} {changed : ℕ}
+      → Bytes name → offset < 2 ^ 64 → Bytes bytes → changed < 2 ^ 32
       → Does (write name fork offset bytes changed) image (toldNumber n) image
   unfolding Fits lent
-  write-stopped name fork offset bytes changed letters at octets fits = stop (write name fork offset bytes changed) (letters, at, octets, fits)
+  write-stopped {name} {fork} {offset} {bytes} {changed} letters at octets fits = stop (write name fork offset bytes changed) (letters, at, octets, fits)
 
-  pub cut-stopped : (name : List ℕ) (fork : Fork) (size changed : ℕ) → Bytes name → size < 2 ^ 64 → changed < 2 ^ 32
+  pub cut-stopped : {name : List ℕ} {fork : Fork} {size changed : ℕ} → Bytes name → size < 2 ^ 64 → changed < 2 ^ 32
       → Does (cut name fork size changed) image (toldNumber n) image
   unfolding Fits lent
-  cut-stopped name fork size changed letters long fits = stop (cut name fork size changed) (letters, long, fits)
+  cut-stopped {name} {fork} {size} {changed} letters long fits = stop (cut name fork size changed) (letters, long, fits)
 
-  pub delete-stopped : (name : List ℕ) → Bytes name → Does (delete name) image (toldNumber n) image
+  pub delete-stopped : {name : List ℕ} → Bytes name → Does (delete name) image (toldNumber n) image
   unfolding Fits lent
-  delete-stopped name letters = stop (delete name) letters
+  delete-stopped {name} letters = stop (delete name) letters

@@ -13,7 +13,7 @@ same-length : tie.Need-same-length
 same-length c = search needs
 
 returns : tie.Need-returns
-returns c = rw (c .before .before .before .fork-numbered .ensures) at (c .before .before .cut .ensures)
+returns c = let r = c .before .before in rw (r .before .fork-numbered .ensures) at (r .cut .ensures)
 
 pub mfs-cut-spec : {M : Type 1} → statement M
 mfs-cut-spec = tie.close (tie.spec fork-numbered-requires cut-requires same-length returns)

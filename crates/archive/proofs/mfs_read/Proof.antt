@@ -13,7 +13,7 @@ same-length : tie.Need-same-length
 same-length c = search needs
 
 returns : tie.Need-returns
-returns c = rw (c .before .before .before .before .fork-numbered .ensures) at (c .before .before .read .ensures)
+returns c = let r = c .before .before in rw (r .before .before .fork-numbered .ensures) at (r .read .ensures)
 
 pub mfs-read-spec : {M : Type 1} → statement M
 mfs-read-spec = tie.close (tie.spec fork-numbered-requires read-requires same-length returns)

@@ -13,7 +13,7 @@ same-length : tie.Need-same-length
 same-length c = search needs
 
 returns : tie.Need-returns
-returns c = rw (c .before .before .before .fork-numbered .ensures) at (c .before .before .write .ensures)
+returns c = let r = c .before .before in rw (r .before .fork-numbered .ensures) at (r .write .ensures)
 
 pub mfs-write-spec : {M : Type 1} → statement M
 mfs-write-spec = tie.close (tie.spec fork-numbered-requires write-requires same-length returns)

@@ -1,7 +1,6 @@
 -- `list` is safe and ends. The loop's invariant: `place` is within the number of files, which is below 65536. Assumes nothing.
 use Prim.Native.Nat.{_≤_, _<_, _-_}
 use native.Mathlib.Omega.{arith}
-use denote.Ref.{now}
 use borrow.Author.Needs.{needs}
 use Rattle.volume.proofs.Checked.{checked}
 use Rattle.list.proofs.list.Statement.{statement}
@@ -31,12 +30,15 @@ cast-files c = omega arith
 loop-holds : tie.Need-loop-holds Inv-loop μ-loop
 loop-holds c = omega arith
 
+-- the volume is good, in the loop
+abbrev passed : tie.In-loop Inv-loop μ-loop → tie.Else1 Inv-loop μ-loop
+passed c = c .before .before .before .before
+
 serve-entry-requires : tie.Need-serve-entry-requires Inv-loop μ-loop
 serve-entry-requires c κs =
-    let e = c .before .before .before .before in
+    let e = passed c in
     let k = e .before .before in
-    let image = now (k .before .before .args .image) in
-    checked image (k .check .result) image (k .check .ensures) (e .if1 .left)
+    checked (k .check .result) (k .check .ensures) (e .if1 .left)
 
 print-file-requires : tie.Need-print-file-requires Inv-loop μ-loop
 print-file-requires c κs = search needs

@@ -1,6 +1,5 @@
 -- `create` meets its contract. Assumes nothing.
 use native.Mathlib.Omega.{arith}
-use denote.Ref.{now}
 use Rattle.files.proofs.Octets.{octets}
 use Rattle.volume.proofs.Checked.{checked}
 use Rattle.volume.proofs.Stopped.{create-stopped}
@@ -21,17 +20,13 @@ returns : tie.Need-returns
 returns c =
     let k = c .before .before in
     let w = k .before .before in
-    let b = w .before in
-    let a = b .before .before .args in
-    create-stopped (now (a .image)) (k .check .result) (k .check .ensures) (c .if1 .taken)
-    (now (a .name)) (now (a .finder)) (a .created) (a .changed)
-    (octets _ (b .shared-slice-known .given)) (w .whole .ensures .1) (w .whole .ensures .0) (omega arith) (omega arith)
+    create-stopped (k .check .result) (k .check .ensures) (c .if1 .taken) (octets _ (w .before .shared-slice-known .given))
+    (w .whole .ensures .1) (w .whole .ensures .0) (omega arith) (omega arith)
 
 serve-create-requires : tie.Need-serve-create-requires
 serve-create-requires c κs =
     let k = c .before .before .before in
-    let image = now (k .before .before .before .before .before .args .image) in
-    checked image (k .check .result) image (k .check .ensures) (c .before .if1 .left)
+    checked (k .check .result) (k .check .ensures) (c .before .if1 .left)
 
 same-length-2 : tie.Need-same-length-2
 same-length-2 c = search needs

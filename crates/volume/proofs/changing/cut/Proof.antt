@@ -1,6 +1,5 @@
 -- `cut` meets its contract. Assumes nothing.
 use native.Mathlib.Omega.{arith}
-use denote.Ref.{now}
 use Rattle.files.proofs.Octets.{octets}
 use Rattle.volume.proofs.Checked.{checked}
 use Rattle.volume.proofs.Stopped.{cut-stopped}
@@ -18,15 +17,12 @@ returns : tie.Need-returns
 returns c =
     let k = c .before .before in
     let b = k .before .before in
-    let a = b .before .before .args in
-    cut-stopped (now (a .image)) (k .check .result) (k .check .ensures) (c .if1 .taken)
-    (now (a .name)) (a .fork) (a .size) (a .changed) (octets _ (b .shared-slice-known .given)) (omega arith) (omega arith)
+    cut-stopped (k .check .result) (k .check .ensures) (c .if1 .taken) (octets _ (b .shared-slice-known .given)) (omega arith) (omega arith)
 
 serve-cut-requires : tie.Need-serve-cut-requires
 serve-cut-requires c κs =
     let k = c .before .before .before in
-    let image = now (k .before .before .before .before .args .image) in
-    checked image (k .check .result) image (k .check .ensures) (c .before .if1 .left)
+    checked (k .check .result) (k .check .ensures) (c .before .if1 .left)
 
 same-length-2 : tie.Need-same-length-2
 same-length-2 c = search needs

@@ -1,5 +1,4 @@
 -- `delete` meets its contract. Assumes nothing.
-use denote.Ref.{now}
 use Rattle.files.proofs.Octets.{octets}
 use Rattle.volume.proofs.Checked.{checked}
 use Rattle.volume.proofs.Stopped.{delete-stopped}
@@ -17,15 +16,12 @@ returns : tie.Need-returns
 returns c =
     let k = c .before .before in
     let b = k .before .before in
-    let a = b .before .before .args in
-    delete-stopped (now (a .image)) (k .check .result) (k .check .ensures) (c .if1 .taken)
-    (now (a .name)) (octets _ (b .shared-slice-known .given))
+    delete-stopped (k .check .result) (k .check .ensures) (c .if1 .taken) (octets _ (b .shared-slice-known .given))
 
 serve-delete-requires : tie.Need-serve-delete-requires
 serve-delete-requires c κs =
     let k = c .before .before .before in
-    let image = now (k .before .before .before .before .args .image) in
-    checked image (k .check .result) image (k .check .ensures) (c .before .if1 .left)
+    checked (k .check .result) (k .check .ensures) (c .before .if1 .left)
 
 same-length-2 : tie.Need-same-length-2
 same-length-2 c = search needs

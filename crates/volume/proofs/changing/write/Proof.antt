@@ -1,6 +1,5 @@
 -- `write` meets its contract. Assumes nothing.
 use native.Mathlib.Omega.{arith}
-use denote.Ref.{now}
 use Rattle.files.proofs.Octets.{octets}
 use Rattle.volume.proofs.Checked.{checked}
 use Rattle.volume.proofs.Stopped.{write-stopped}
@@ -18,16 +17,13 @@ returns : tie.Need-returns
 returns c =
     let k = c .before .before in
     let b = k .before .before in
-    let a = b .before .before .before .args in
-    write-stopped (now (a .image)) (k .check .result) (k .check .ensures) (c .if1 .taken)
-    (now (a .name)) (a .fork) (a .offset) (now (a .bytes)) (a .changed)
+    write-stopped (k .check .result) (k .check .ensures) (c .if1 .taken)
     (octets _ (b .before .shared-slice-known .given)) (omega arith) (octets _ (b .shared-slice-known2 .given)) (omega arith)
 
 serve-write-requires : tie.Need-serve-write-requires
 serve-write-requires c κs =
     let k = c .before .before .before in
-    let image = now (k .before .before .before .before .before .args .image) in
-    checked image (k .check .result) image (k .check .ensures) (c .before .if1 .left)
+    checked (k .check .result) (k .check .ensures) (c .before .if1 .left)
 
 same-length-2 : tie.Need-same-length-2
 same-length-2 c = search needs

@@ -1,6 +1,5 @@
 -- `one_of_nine` meets its contract: whichever call is wanted, that call's own contract makes the event. Assumes nothing.
 use mathlib.Core.Path.{refl}
-use denote.Ref.{now}
 use borrow.Author.Needs.{needs}
 use Rattle.model.specs.Calls.{lent, only}
 use Rattle.volume.specs.Runs.{callOf}
@@ -127,9 +126,7 @@ returns-5 : tie.Need-returns-5
 unfolding callOf
 returns-5 c =
     let k = c .before .before .before in
-    let e = k .before .before .before in
-    rw (e .enum-told5 .given .1, c .of-read .ensures)
-    (read-happens (now (e .before .before .before .before .before .before .args .buffer)) (same-length-6 c) (k .read .ensures))
+    rw (k .before .before .before .enum-told5 .given .1, c .of-read .ensures) (read-happens (same-length-6 c) (k .read .ensures))
 
 same-length-7 : tie.Need-same-length-7
 same-length-7 c = search needs

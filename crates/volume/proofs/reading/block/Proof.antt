@@ -1,6 +1,5 @@
 -- `block` meets its contract. Assumes nothing.
 use native.Mathlib.Omega.{arith}
-use denote.Ref.{now}
 use Rattle.files.proofs.Octets.{octets}
 use Rattle.volume.proofs.Checked.{checked}
 use Rattle.volume.proofs.Stopped.{block-stopped}
@@ -14,15 +13,12 @@ check-requires c κs = search needs
 returns : tie.Need-returns
 returns c =
     let k = c .before in
-    let a = k .before .before .before .args in
-    block-stopped (now (a .image)) (k .check .result) (k .check .ensures) (c .if1 .taken)
-    (now (a .name)) (a .fork) (a .place) (octets _ (k .before .shared-slice-known2 .given)) (omega arith)
+    block-stopped (k .check .result) (k .check .ensures) (c .if1 .taken) (octets _ (k .before .shared-slice-known2 .given)) (omega arith)
 
 serve-block-requires : tie.Need-serve-block-requires
 serve-block-requires c κs =
     let k = c .before in
-    let image = now (k .before .before .before .args .image) in
-    checked image (k .check .result) image (k .check .ensures) (c .if1 .left)
+    checked (k .check .result) (k .check .ensures) (c .if1 .left)
 
 returns-2 : tie.Need-returns-2
 returns-2 c = c .serve-block .ensures

@@ -1,6 +1,5 @@
 -- `entry` meets its contract. Assumes nothing.
 use native.Mathlib.Omega.{arith}
-use denote.Ref.{now}
 use Rattle.volume.proofs.Checked.{checked}
 use Rattle.volume.proofs.Stopped.{entry-stopped}
 use borrow.Author.Needs.{needs}
@@ -16,15 +15,12 @@ no-entry-requires c κs = search needs
 returns : tie.Need-returns
 returns c =
     let k = c .before .before in
-    let a = k .before .before .args in
-    entry-stopped (now (a .image)) (k .check .result) (k .check .ensures) (c .before .if1 .taken)
-    (a .place) (c .no-entry .result) (omega arith) (c .no-entry .ensures)
+    entry-stopped (k .check .result) (k .check .ensures) (c .before .if1 .taken) (omega arith) (c .no-entry .ensures)
 
 serve-entry-requires : tie.Need-serve-entry-requires
 serve-entry-requires c κs =
     let k = c .before in
-    let image = now (k .before .before .args .image) in
-    checked image (k .check .result) image (k .check .ensures) (c .if1 .left)
+    checked (k .check .result) (k .check .ensures) (c .if1 .left)
 
 returns-2 : tie.Need-returns-2
 returns-2 c = c .serve-entry .ensures

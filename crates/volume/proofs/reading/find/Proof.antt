@@ -1,5 +1,4 @@
 -- `find` meets its contract. Assumes nothing.
-use denote.Ref.{now}
 use Rattle.files.proofs.Octets.{octets}
 use Rattle.volume.proofs.Checked.{checked}
 use Rattle.volume.proofs.Stopped.{find-stopped}
@@ -16,15 +15,12 @@ no-entry-requires c κs = search needs
 returns : tie.Need-returns
 returns c =
     let k = c .before .before in
-    let a = k .before .before .before .args in
-    find-stopped (now (a .image)) (k .check .result) (k .check .ensures) (c .before .if1 .taken)
-    (now (a .name)) (c .no-entry .result) (octets _ (k .before .shared-slice-known2 .given)) (c .no-entry .ensures)
+    find-stopped (k .check .result) (k .check .ensures) (c .before .if1 .taken) (octets _ (k .before .shared-slice-known2 .given)) (c .no-entry .ensures)
 
 serve-find-requires : tie.Need-serve-find-requires
 serve-find-requires c κs =
     let k = c .before in
-    let image = now (k .before .before .before .args .image) in
-    checked image (k .check .result) image (k .check .ensures) (c .if1 .left)
+    checked (k .check .result) (k .check .ensures) (c .if1 .left)
 
 returns-2 : tie.Need-returns-2
 returns-2 c = c .serve-find .ensures

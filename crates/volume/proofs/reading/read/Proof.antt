@@ -1,6 +1,5 @@
 -- `read` meets its contract. Assumes nothing.
 use native.Mathlib.Omega.{arith}
-use denote.Ref.{now}
 use Rattle.files.proofs.Octets.{octets}
 use Rattle.volume.proofs.Checked.{checked}
 use Rattle.volume.proofs.Stopped.{read-stopped}
@@ -15,15 +14,13 @@ returns : tie.Need-returns
 returns c =
     let k = c .before in
     let b = k .before in
-    let a = b .before .before .before .args in
-    read-stopped (now (a .image)) (k .check .result) (k .check .ensures) (c .if1 .taken)
-    (now (a .name)) (a .fork) (a .offset) (now (a .buffer)) (octets _ (b .before .shared-slice-known2 .given)) (omega arith) (octets _ (b .slice-known .given))
+    read-stopped (k .check .result) (k .check .ensures) (c .if1 .taken)
+    (octets _ (b .before .shared-slice-known2 .given)) (omega arith) (octets _ (b .slice-known .given))
 
 serve-read-requires : tie.Need-serve-read-requires
 serve-read-requires c κs =
     let k = c .before .before in
-    let image = now (k .before .before .before .before .args .image) in
-    checked image (k .check .result) image (k .check .ensures) (c .before .if1 .left)
+    checked (k .check .result) (k .check .ensures) (c .before .if1 .left)
 
 same-length : tie.Need-same-length
 same-length c = search needs
