@@ -53,7 +53,7 @@ module _ {f : VolumeFacts} {image : List ℕ} (r : Readable f image) where
         record { base = refl; at = refl; left = omega arith; rest = λ i. sym (blocks-rest i (dirLength f) (512 * dirStart f .0) (λ z. omega arith)) }
 
     pub adds-block : Block image base
-    adds-block = rw (a .room .block) (block-of image first (first-passes r first first-begins) refl (a .room .index) (omega (arith, a .room .within, a .count)))
+    adds-block = rw (a .room .block) (block-of image first (first-passes r first-begins) refl (a .room .index) (omega (arith, a .room .within, a .count)))
 
     pub adds-behind : (end ≡ readEnd (part base 512 image)) × (end + padded (51 + title) ≤ 512) × (title ≤ 255)
     unfolding hasRoom

@@ -78,31 +78,31 @@ pub record Fresh (image name : List ℕ) : Type 0 where
   pub good : badName name ≡ false
   pub none : any (named name) (directory image) ≡ false
 
-pub fresh : (image name : List ℕ) (number : ℕ) → Missed image name number → (number ≡ 12 → ⊥) → Fresh image name
-fresh image name number m w =
+pub fresh : {image name : List ℕ} {number : ℕ} → Missed image name number → (number ≡ 12 → ⊥) → Fresh image name
+fresh {image} {name} {number} m w =
     let both = missed-fresh (badName name) (any (named name) (directory image)) number (m .fires) (m .some) w in
     record { good = both .0; none = both .1 }
 
-pub fresh-title : (image name : List ℕ) → Fresh image name → GoodName name
-fresh-title image name h = good-name name (h .good)
+pub fresh-title : {image name : List ℕ} → Fresh image name → GoodName name
+fresh-title {name = name} h = good-name name (h .good)
 
 module _ {f : VolumeFacts} {image : List ℕ} (r : Readable f image) (octets : Bytes image)
-    (name finder : List ℕ) (made changed : ℕ) (fits : Fits (create name finder made changed)) where
+    {name finder : List ℕ} {made changed : ℕ} (fits : Fits (create name finder made changed)) where
   pub create-locked : isLocked f ≡ true → Does (create name finder made changed) image (toldNumber 11) image
   unfolding refuses knownIn nameOf forkGiven lent
   create-locked h = let h′ = rw (r .facts) at h in refuse r octets (create name finder made changed) 11 fits (rw h′) (λ z. omega arith)
 
   module _ (l : isLocked f ≡ false) where
-    pub create-untitled : (number : ℕ) → Missed image name number → number ≡ 12 → Does (create name finder made changed) image (toldNumber 12) image
+    pub create-untitled : {number : ℕ} → Missed image name number → number ≡ 12 → Does (create name finder made changed) image (toldNumber 12) image
     unfolding refuses knownIn nameOf forkGiven lent
-    create-untitled number m e =
+    create-untitled {number} m e =
         let l′ = rw (r .facts) at l in
         let t : badName name ≡ true = missed-bad (badName name) (any (named name) (directory image)) number (m .fires) e in
         refuse r octets (create name finder made changed) 12 fits (rw (l′, t)) (λ z. omega arith)
 
-    pub create-exists : (place : ℕ) (e : EntryAt) → NamedEntry image name place e → Does (create name finder made changed) image (toldNumber 14) image
+    pub create-exists : {place : ℕ} {e : EntryAt} → NamedEntry image name place e → Does (create name finder made changed) image (toldNumber 14) image
     unfolding refuses knownIn nameOf forkGiven lent
-    create-exists place e h =
+    create-exists h =
         let l′ = rw (r .facts) at l in
         refuse r octets (create name finder made changed) 14 fits (rw (l′, h .title, h .there .exists)) (λ z. omega arith)
 
@@ -116,20 +116,20 @@ module _ {f : VolumeFacts} {image : List ℕ} (r : Readable f image) (octets : B
           (λ z. omega arith)
 
       module _ (n : nextNumber f ≡ 4294967295 → ⊥) where
-        pub create-full : (c : Cursor) → Begins (dirStart f .0) (dirLength f) c → (size : ℕ) → size ≡ padded (51 + length name)
+        pub create-full : {c : Cursor} → Begins (dirStart f .0) (dirLength f) c → {size : ℕ} → size ≡ padded (51 + length name)
             → any (hasRoom size) (cutBlocks (c .left + 1) (drop (c .base) image)) ≡ false → Does (create name finder made changed) image (toldNumber 18) image
         unfolding refuses knownIn nameOf forkGiven lent
-        create-full c b size q h =
+        create-full {c} b {size} q h =
             let l′ = rw (r .facts) at l in
             let n′ = rw (r .facts) at n in
             let h′ = rw (r .facts) at (no-room f image c b (length name) size q h) in
             refuse r octets (create name finder made changed) 18 fits
             (rw (l′, new .good, new .none, ne-eqb (nextNumber (factsOf image)) 4294967295 n′, h′)) (λ z. omega arith)
 
-        pub create-served : (base end : ℕ) → Adds f image (length name) base end → (after : List ℕ) → after ≡ withFile f image name finder made changed
+        pub create-served : {base end : ℕ} → Adds f image (length name) base end → {after : List ℕ} → after ≡ withFile f image name finder made changed
             → Does (create name finder made changed) image (toldNumber 0) after
         unfolding refuses knownIn nameOf forkGiven reply change
-        create-served base end a after p =
+        create-served {base} {end} a p =
             let l′ = rw (r .facts) at l in
             let n′ = rw (r .facts) at n in
             let h′ = rw (r .facts) at (adds-some r (length name) base end a) in

@@ -121,10 +121,10 @@ module _ {f : VolumeFacts} {image : List ℕ} {e : EntryAt} (h : FileAt f image 
       omega (arith, few h)
 
   in-map : InMap (N f) content
-  in-map b m = fork-block (mapEntry image) (N f) (A f) d b (fork-sound (h .readable) (h .found) Data d p) m
+  in-map b m = fork-block (mapEntry image) (N f) (A f) d b (fork-sound (h .readable) (h .found) Data p) m
 
   low : (b : ℕ) → 1 ≤ times b resource → 2 ≤ b
-  low b m = fork-block (mapEntry image) (N f) (A f) r b (fork-sound (h .readable) (h .found) Resource r q) m .0
+  low b m = fork-block (mapEntry image) (N f) (A f) r b (fork-sound (h .readable) (h .found) Resource q) m .0
 
   module _ (x : List ℕ) (s : x ≡ putFree image (chainBlocks (mapEntry image) (d .physical / A f) (d .start .0))) where
     -- the resource fork's chain is as before

@@ -102,7 +102,7 @@ module _ (image : List ℕ) (acc : Accepted image) (name : List ℕ) (there : an
 
 module _ {f : VolumeFacts} {image : List ℕ} {e : EntryAt} (h : FileAt f image e) (fork : Fork) (g : ForkFacts) (q : g ≡ forkOf fork (bytesAt image e)) where
   fork-is : g ≡ forkOf fork (theEntry image (h .readable .accepted) (h .name) (h .found .there .exists))
-  fork-is = named-fork (h .readable) (h .found) fork g q ∙ ap (forkOf fork) (the-entry image (h .readable .accepted) (h .name) (h .found .there .exists))
+  fork-is = named-fork (h .readable) (h .found) fork q ∙ ap (forkOf fork) (the-entry image (h .readable .accepted) (h .name) (h .found .there .exists))
 
   linked : (k : ℕ) → Linked (mapEntry (putChain image (grownBlocks f image g k))) (N f) (grownBlocks f image g k)
   linked k = rw (h .readable .facts, fork-is) (joined image (h .readable .accepted) (h .name) (h .found .there .exists) fork k)
@@ -141,7 +141,7 @@ module _ {f : VolumeFacts} {image : List ℕ} {e : EntryAt} (h : FileAt f image 
 
       pub grown-fillable : Fillable l (S f) (A f) t (g .physical / A f + need)
       grown-fillable =
-          let c = fork-copyable (h .readable) (h .found) fork g q .area in
+          let c = fork-copyable (h .readable) (h .found) fork q .area in
           let room : 512 * S f .0 + N f * A f ≤ length image = rw (h .readable .facts) (area image (h .readable .accepted) .room) in
           record {
             n = N f;

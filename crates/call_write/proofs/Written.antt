@@ -36,12 +36,11 @@ module _ {f : VolumeFacts} {image name : List ℕ} {fork : Fork} {offset : ℕ} 
   module _ (octets : Bytes image) {bytes : List ℕ} {changed : ℕ} (fits : Fits (write name fork offset bytes changed))
       (new : NewBlocks) (w : Grows f g offset (length bytes) new) where
     pub write-full : (new .number ≡ 0 → ⊥) → Does (write name fork offset bytes changed) image (toldNumber (new .number)) image
-    write-full z =
-        refused-own r octets (write-changing image name fork offset bytes changed) fits (h .file) (not-beyond r h) (new .number) (number-is bytes new w) z
+    write-full z = refused-own r octets write-changing fits (h .file) (not-beyond r h) (number-is bytes new w) z
 
-    pub write-served : new .number ≡ 0 → (after : List ℕ) → Written f image e fork g offset bytes changed after
+    pub write-served : new .number ≡ 0 → {after : List ℕ} → Written f image e fork g offset bytes changed after
         → Does (write name fork offset bytes changed) image (toldNumber 0) after
     unfolding change
-    write-served z after p =
-        done r octets (write-changing image name fork offset bytes changed) fits (h .file) (not-beyond r h) (number-is bytes new w ∙ z) after
+    write-served z p =
+        done r octets write-changing fits (h .file) (not-beyond r h) (number-is bytes new w ∙ z)
         (p (changed-fork-at r h .held) ∙ (λ i. written (r .facts i) image name fork offset bytes changed (changed-fork-is r h i)))

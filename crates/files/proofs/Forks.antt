@@ -48,7 +48,7 @@ module _ {f : VolumeFacts} {image name : List ℕ} {place : ℕ} {e : EntryAt} (
   unfolding entryNamed
   named-bytes = h .there .bytes
 
-  module _ (fork : Fork) (g : ForkFacts) (q : g ≡ forkOf fork (bytesAt image e)) where
+  module _ (fork : Fork) {g : ForkFacts} (q : g ≡ forkOf fork (bytesAt image e)) where
     pub named-fork : g ≡ forkOf fork (entryNamed name image)
     named-fork = q ∙ ap (forkOf fork) named-bytes
 

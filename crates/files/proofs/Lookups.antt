@@ -45,12 +45,12 @@ pub missed-title : (image name : List ℕ) → badName name ≡ true → Missed 
 missed-title image name h = record { fires = rw h; some = λ z. omega arith }
 
 -- what a name names, by its case
-module _ (image name : List ℕ) (n : Named) (h : Names image name n) where
-  pub names-file : (place : ℕ) (e : EntryAt) → n ≡ At place e → NamedEntry image name place e
-  names-file place e p = rw p at h
+module _ {image name : List ℕ} {n : Named} where
+  pub names-file : {place : ℕ} {e : EntryAt} → Names image name n → n ≡ At place e → NamedEntry image name place e
+  names-file h p = rw p at h
 
-  pub names-none : (number : ℕ) → n ≡ Refused number → Missed image name number
-  names-none number p = rw p at h
+  pub names-none : {number : ℕ} → Names image name n → n ≡ Refused number → Missed image name number
+  names-none h p = rw p at h
 
 -- ---- an accepted image's directory
 
@@ -59,7 +59,7 @@ module _ {f : VolumeFacts} {image : List ℕ} (r : Readable f image) where
   some-block = rw (r .facts) (r .accepted .facts .layout .dirSome)
 
   -- from its first entry on
-  module _ (c : Cursor) (b : Begins (dirStart f .0) (dirLength f) c) where
+  module _ {c : Cursor} (b : Begins (dirStart f .0) (dirLength f) c) where
     begins : Begins (dirStart (factsOf image) .0) (dirLength (factsOf image)) c
     begins = rw (r .facts) at b
 
@@ -69,16 +69,17 @@ module _ {f : VolumeFacts} {image : List ℕ} (r : Readable f image) where
     first-rest : restOf image c ≡ directory image
     first-rest = begins-directory image c begins
 
-    module _ (asked : ℕ) (s : sort.Found) (h : Gives image (restOf image c) asked s) where
-      pub given-at : (place : ℕ) (e : EntryAt) → s ≡ found.At place e → Placed image (directory image) asked place e
-      given-at place e p = rw first-rest at (rw p at h)
+    module _ {s : sort.Found} where
+      pub given-at : {asked place : ℕ} {e : EntryAt} → Gives image (restOf image c) asked s → s ≡ found.At place e
+          → Placed image (directory image) asked place e
+      given-at h p = rw first-rest at (rw p at h)
 
-      pub given-none : s ≡ found.Nothing → length (directory image) ≤ asked
-      given-none p = rw first-rest at (rw p at h)
+      pub given-none : (asked : ℕ) → Gives image (restOf image c) asked s → s ≡ found.Nothing → length (directory image) ≤ asked
+      given-none asked h p = rw first-rest at (rw p at h)
 
-    module _ (name : List ℕ) (s : sort.Found) (h : Finds image name (restOf image c) s) (l : Located image c s) (good : badName name ≡ false) where
-      pub found-at : (place : ℕ) (e : EntryAt) → s ≡ found.At place e → NamedEntry image name place e
-      found-at place e p =
+    module _ {name : List ℕ} {s : sort.Found} (h : Finds image name (restOf image c) s) (l : Located image c s) (good : badName name ≡ false) where
+      pub found-at : {place : ℕ} {e : EntryAt} → s ≡ found.At place e → NamedEntry image name place e
+      found-at p =
           let f′ = factsOf image in
           record {
             title = good;

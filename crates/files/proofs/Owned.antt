@@ -73,11 +73,11 @@ module _ {f : VolumeFacts} {image : List ℕ} {e : EntryAt} (h : FileAt f image 
     pub fork-runs : 0 < g .physical / A f → runs (mapEntry image) (N f) (g .physical / A f) (g .start .0) ≡ true
     fork-runs l =
         chain-runs (mapEntry image) (N f)
-        (fork-sound (h .readable) (h .found) fork g q .chain (starts (h .readable) (h .found) fork g q 0 l))
+        (fork-sound (h .readable) (h .found) fork q .chain (starts (h .readable) (h .found) fork q 0 l))
 
     -- its blocks hold its bytes
     pub fork-holds : g .logical ≤ g .physical / A f * A f
     unfolding blockCount
     fork-holds =
-        let fits = good (mapEntry image) (N f) (A f) g (fork-good (mapEntry image) (N f) (A f) g (fork-sound (h .readable) (h .found) fork g q)) .0 in
+        let fits = good (mapEntry image) (N f) (A f) g (fork-good (mapEntry image) (N f) (A f) g (fork-sound (h .readable) (h .found) fork q)) .0 in
         subst (λ (n : ℕ). g .logical ≤ n * A f) (length-forkBlocks (mapEntry image) (A f) g) (fits .logical)

@@ -1,6 +1,6 @@
 -- The returns of the calls that change the file of a name, write, cut and delete: the refusals that they begin with, their own
 -- behind those, and the change.
-use Prim.Native.Nat.{ℕ, _≤_, _<_}
+use Prim.Native.Nat.{ℕ, _<_}
 use mathlib.Core.Path.{_≡_, refl, sym, ap, subst, _∙_}
 use mathlib.Core.Bool.{Bool, true, false, not}
 use mathlib.Core.List.{List, []}
@@ -43,15 +43,15 @@ behindOffset image name fork offset bytes =
     let g = forkOf fork (entryNamed name image) in
     orElse (ltb (freeCount f) (needed (A f) (grown (g .logical) offset (length bytes)) (blockCount (A f) g))) 17 0
 
-module _ (image name : List ℕ) where
-  pub write-changing : (fork : Fork) (offset : ℕ) (bytes : List ℕ) (changed : ℕ)
+module _ {image name : List ℕ} where
+  pub write-changing : {fork : Fork} {offset : ℕ} {bytes : List ℕ} {changed : ℕ}
       → Changing (write name fork offset bytes changed) image name (beyondEnd image name fork offset) (behindOffset image name fork offset bytes)
   unfolding refuses knownIn nameOf forkGiven lent reply
-  write-changing fork offset bytes changed = record { own = refl; lends = refl; tells = refl }
+  write-changing = record { own = refl; lends = refl; tells = refl }
 
-  pub cut-changing : (fork : Fork) (size changed : ℕ) → Changing (cut name fork size changed) image name (beyondEnd image name fork size) 0
+  pub cut-changing : {fork : Fork} {size changed : ℕ} → Changing (cut name fork size changed) image name (beyondEnd image name fork size) 0
   unfolding refuses knownIn nameOf forkGiven lent reply
-  cut-changing fork size changed = record { own = refl; lends = refl; tells = refl }
+  cut-changing = record { own = refl; lends = refl; tells = refl }
 
   pub delete-changing : Changing (delete name) image name false 0
   unfolding refuses knownIn nameOf forkGiven lent reply
@@ -108,12 +108,12 @@ past-15 r h beyond rest =
     rw (h .writable, h .found .title, h .found .there .exists, l)
 
 -- which it is, by its case
-module _ (image name : List ℕ) (n : Named) (h : MayChange image name n) where
-  pub changed-file : (place : ℕ) (e : EntryAt) → n ≡ At place e → Changeable image name place e
-  changed-file place e p = rw p at h
+module _ {image name : List ℕ} {n : Named} where
+  pub changed-file : {place : ℕ} {e : EntryAt} → MayChange image name n → n ≡ At place e → Changeable image name place e
+  changed-file h p = rw p at h
 
-  pub changed-none : (number : ℕ) → n ≡ Refused number → Barred image name false number
-  changed-none number p = rw p at h
+  pub changed-none : {number : ℕ} → MayChange image name n → n ≡ Refused number → Barred image name false number
+  changed-none h p = rw p at h
 
 -- ---- the fork that may be changed
 
@@ -124,19 +124,21 @@ barred-file {image} {name} fork offset {number} h =
     record { fires = barred-before image name false (orElse (beyondEnd image name fork offset) 16 0) number h; some = h .some }
 
 pub barred-16 : {f : VolumeFacts} {image name : List ℕ} {place : ℕ} {e : EntryAt} → Readable f image → Changeable image name place e
-    → (fork : Fork) (offset : ℕ) (g : ForkFacts) → g ≡ forkOf fork (bytesAt image e) → g .logical < offset
+    → (fork : Fork) (offset : ℕ) {g : ForkFacts} → g ≡ forkOf fork (bytesAt image e) → g .logical < offset
     → Barred image name (beyondEnd image name fork offset) 16
-barred-16 {f} {image} {name} r h fork offset g q l =
-    let l′ = rw (named-fork r (h .found) fork g q) at l in
+barred-16 {f} {image} {name} r h fork offset q l =
+    let l′ = rw (named-fork r (h .found) fork q) at l in
     record { fires = sym (past-15 r h (beyondEnd image name fork offset) 0 ∙ rw (lt-ltb _ offset l′)); some = λ z. omega arith }
 
 -- which it is, by its case
-module _ (image name : List ℕ) (fork : Fork) (offset : ℕ) (n : NamedFork) (h : MayChangeFork image name fork offset n) where
-  pub changed-fork : (e : EntryAt) (g : ForkFacts) → n ≡ variant.At e g → ChangeableFork image name fork offset e g
-  changed-fork e g p = rw p at h
+module _ {image name : List ℕ} {n : NamedFork} where
+  pub changed-fork : {fork : Fork} {offset : ℕ} {e : EntryAt} {g : ForkFacts} → MayChangeFork image name fork offset n → n ≡ variant.At e g
+      → ChangeableFork image name fork offset e g
+  changed-fork h p = rw p at h
 
-  pub changed-no-fork : (number : ℕ) → n ≡ variant.Refused number → Barred image name (beyondEnd image name fork offset) number
-  changed-no-fork number p = rw p at h
+  pub changed-no-fork : (fork : Fork) (offset : ℕ) {number : ℕ} → MayChangeFork image name fork offset n → n ≡ variant.Refused number
+      → Barred image name (beyondEnd image name fork offset) number
+  changed-no-fork fork offset h p = rw p at h
 
 module _ {f : VolumeFacts} {image name : List ℕ} {fork : Fork} {offset : ℕ} {e : EntryAt} {g : ForkFacts}
     (r : Readable f image) (h : ChangeableFork image name fork offset e g) where
@@ -144,7 +146,7 @@ module _ {f : VolumeFacts} {image name : List ℕ} {fork : Fork} {offset : ℕ} 
   changed-fork-at = record { held = record { readable = r; name = name; place = h .place; found = h .file .found }; is = h .is }
 
   pub changed-fork-is : g ≡ forkOf fork (entryNamed name image)
-  changed-fork-is = named-fork r (h .file .found) fork g (h .is)
+  changed-fork-is = named-fork r (h .file .found) fork (h .is)
 
   pub not-beyond : beyondEnd image name fork offset ≡ false
   not-beyond =
@@ -160,18 +162,18 @@ module _ {f : VolumeFacts} {image : List ℕ} (r : Readable f image) (octets : B
   stops n h z = subst (λ (l : List ℕ). Does call image (only n l) image) (c .lends) (refuse r octets call n fits (h ∙ sym (c .own)) z)
 
   -- 11, 12, 13, 15 or 16
-  pub refused : (n : ℕ) → Barred image name beyond n → Does call image (toldNumber n) image
-  refused n h = stops n (barred-before image name beyond rest n h) (h .some)
+  pub refused : {n : ℕ} → Barred image name beyond n → Does call image (toldNumber n) image
+  refused {n} h = stops n (barred-before image name beyond rest n h) (h .some)
 
   module _ {place : ℕ} {e : EntryAt} (h : Changeable image name place e) (within : beyond ≡ false) where
     past-16 : begins image name beyond rest ≡ rest
     past-16 = past-15 r h beyond rest ∙ rw within
 
     -- 17
-    pub refused-own : (n : ℕ) → rest ≡ n → (n ≡ 0 → ⊥) → Does call image (toldNumber n) image
-    refused-own n q z = stops n (sym (past-16 ∙ q)) z
+    pub refused-own : {n : ℕ} → rest ≡ n → (n ≡ 0 → ⊥) → Does call image (toldNumber n) image
+    refused-own {n} q z = stops n (sym (past-16 ∙ q)) z
 
-    pub done : rest ≡ 0 → (left : List ℕ) → left ≡ change call image → Does call image (toldNumber 0) left
-    done q left l =
+    pub done : rest ≡ 0 → {left : List ℕ} → left ≡ change call image → Does call image (toldNumber 0) left
+    done q l =
         subst (λ (x : List ℕ). Does call image (only 0 []) x) (sym l)
         (subst (λ x. Does call image x (change call image)) (c .tells) (serve r octets call fits (c .own ∙ past-16 ∙ q)))

@@ -46,7 +46,8 @@ module _ {image : List ℕ} (r : CheckAnswer) (d : Does check image (toldCheck r
   pub create-stopped : {name finder : List ℕ} {created changed : ℕ} → Bytes name → Bytes finder → length finder ≡ 16 → created < 2 ^ 32 → changed < 2 ^ 32
       → Does (create name finder created changed) image (toldNumber n) image
   unfolding Fits lent
-  create-stopped {name} {finder} {created} {changed} letters octets long made fits = stop (create name finder created changed) (letters, octets, long, made, fits)
+  create-stopped {name} {finder} {created} {changed} letters octets long made fits =
+      stop (create name finder created changed) (letters, octets, long, made, fits)
 
   pub write-stopped : {name : List ℕ} {fork : Fork} {offset : ℕ} {bytes : List ℕ} {changed : ℕ}
       → Bytes name → offset < 2 ^ 64 → Bytes bytes → changed < 2 ^ 32

@@ -60,9 +60,7 @@ module _ (c : tie.Else2) where
   new =
       let n = c .before .before in
       let l = at-lookup n in
-      fresh _ _ _
-      (names-none (now (first .args .image)) (now (first .args .name)) (l .lookup .result) (l .lookup .ensures) _ (n .number .given .1))
-      (c .if2 .left)
+      fresh (names-none (l .lookup .ensures) (n .number .given .1)) (c .if2 .left)
 
 -- 19 is past
 abbrev past-19 : tie.After-first-entry → tie.Else3
@@ -83,7 +81,7 @@ adds-there c =
     let e = at-first r in
     let k = past-19 e in
     let s = first (fresh-at e) in
-    let title = fresh-title _ _ (new (fresh-at e)) in
+    let title = fresh-title (new (fresh-at e)) in
     adds (s .args .f) (now (s .args .image)) (e .first-entry .result) (e .first-entry .ensures) (length (now (s .args .name)))
     (z .entry-size .result) (z .entry-size .ensures) _ _
     (room-at _ _ _ _ (r .find-room .result) (r .find-room .ensures) _ _ (c .base .given .1)) (title .some) (title .short)
@@ -101,7 +99,7 @@ returns : tie.Need-returns
 returns c =
     let k = c .before in
     let w = k .before in
-    create-locked (start w .pre) (image-octets w) _ _ _ _ (fits w) (sym (k .is-locked .ensures) ∙ c .if1 .taken)
+    create-locked (start w .pre) (image-octets w) (fits w) (sym (k .is-locked .ensures) ∙ c .if1 .taken)
 
 lookup-requires : tie.Need-lookup-requires
 lookup-requires c κs = search needs
@@ -121,9 +119,7 @@ returns-2 c =
     let l = at-lookup n in
     let e = l .before .before in
     let w = at-whole e in
-    let s = start w in
-    create-untitled (s .pre) (image-octets w) _ _ _ _ (fits w) (unlocked e) _
-    (names-none (now (s .args .image)) (now (s .args .name)) (l .lookup .result) (l .lookup .ensures) _ (n .number .given .1)) (c .if2 .taken)
+    create-untitled (start w .pre) (image-octets w) (fits w) (unlocked e) (names-none (l .lookup .ensures) (n .number .given .1)) (c .if2 .taken)
 
 same-length-2 : tie.Need-same-length-2
 same-length-2 c = search needs
@@ -133,21 +129,21 @@ returns-3 c =
     let k = c .before .before in
     let e = writable k in
     let w = at-whole e in
-    create-last (start w .pre) (image-octets w) _ _ _ _ (fits w) (unlocked e) (new k) (c .if3 .taken)
+    create-last (start w .pre) (image-octets w) (fits w) (unlocked e) (new k) (c .if3 .taken)
 
 first-entry-requires : tie.Need-first-entry-requires
 first-entry-requires c κs = some-block (first (c .before .before .before) .pre)
 
 entry-size-requires : tie.Need-entry-size-requires
-entry-size-requires c κs = fresh-title _ _ (new (fresh-at c)) .short
+entry-size-requires c κs = fresh-title (new (fresh-at c)) .short
 
 find-room-requires : tie.Need-find-room-requires
 unfolding padded
 find-room-requires c κs =
     let e = c .before in
     let k = fresh-at e in (
-      first-passes (first k .pre) (e .first-entry .result) (e .first-entry .ensures),
-      (e .first-entry .ensures .at, omega (arith, c .entry-size .ensures, fresh-title _ _ (new k) .short)),
+      first-passes (first k .pre) (e .first-entry .ensures),
+      (e .first-entry .ensures .at, omega (arith, c .entry-size .ensures, fresh-title (new k) .short)),
     )
 
 enum-told-2 : tie.Need-enum-told-2
@@ -167,9 +163,7 @@ returns-4 c =
     let l = c .before .before in
     let e = l .before .before in
     let w = at-whole e in
-    let s = start w in
-    create-exists (s .pre) (image-octets w) _ _ _ _ (fits w) (unlocked e) _ _
-    (names-file (now (s .args .image)) (now (s .args .name)) (l .lookup .result) (l .lookup .ensures) _ _ (c .enum-told .given .1))
+    create-exists (start w .pre) (image-octets w) (fits w) (unlocked e) (names-file (l .lookup .ensures) (c .enum-told .given .1))
 
 same-length-4 : tie.Need-same-length-4
 same-length-4 c = search needs
@@ -177,13 +171,12 @@ same-length-4 c = search needs
 returns-5 : tie.Need-returns-5
 returns-5 c =
     let r = c .before .before in
-    let z = r .before in
     let f = at-first r in
     let k = fresh-at f in
     let e = writable k in
     let w = at-whole e in
-    create-full (start w .pre) (image-octets w) _ _ _ _ (fits w) (unlocked e) (new k) (past-19 f .if3 .left)
-    (f .first-entry .result) (f .first-entry .ensures) (z .entry-size .result) (z .entry-size .ensures)
+    create-full (start w .pre) (image-octets w) (fits w) (unlocked e) (new k) (past-19 f .if3 .left)
+    (f .first-entry .ensures) (r .before .entry-size .ensures)
     (room-none _ _ _ _ (r .find-room .result) (r .find-room .ensures) (c .enum-told2 .given .1))
 
 same-length-5 : tie.Need-same-length-5
@@ -197,8 +190,8 @@ returns-6 c =
     let k = fresh-at f in
     let e = writable k in
     let w = at-whole e in
-    create-served (start w .pre) (image-octets w) _ _ _ _ (fits w) (unlocked e) (new k) (past-19 f .if3 .left)
-    _ _ (adds-there b) _ (a .add-file .ensures)
+    create-served (start w .pre) (image-octets w) (fits w) (unlocked e) (new k) (past-19 f .if3 .left)
+    (adds-there b) (a .add-file .ensures)
 
 pub serve-create-spec : {M : Type 1} → statement M
 serve-create-spec =

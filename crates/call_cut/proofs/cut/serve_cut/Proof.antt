@@ -28,10 +28,7 @@ module _ (c : tie.After-changeable-fork) where
 -- the fork that may be changed
 fork : (c : tie.After-e) → let a = start (c .before .before) .args in
     ChangeableFork (now (a .image)) (now (a .name)) (a .fork) (a .size) (c .e .given .0 .0) (c .e .given .0 .1 .0)
-fork c =
-    let k = c .before .before in
-    let a = start k .args in
-    changed-fork (now (a .image)) (now (a .name)) (a .fork) (a .size) (k .changeable-fork .result) (k .changeable-fork .ensures) _ _ (c .e .given .1)
+fork c = changed-fork (c .before .before .changeable-fork .ensures) (c .e .given .1)
 
 changeable-fork-requires : tie.Need-changeable-fork-requires
 changeable-fork-requires c κs = search needs
@@ -58,8 +55,7 @@ returns c =
     let n = c .before in
     let k = n .before .before in
     let a = start k .args in
-    refused (start k .pre) (image-bytes k) (cut-changing (now (a .image)) (now (a .name)) (a .fork) (a .size) (a .changed)) (fits k) _
-    (changed-no-fork (now (a .image)) (now (a .name)) (a .fork) (a .size) (k .changeable-fork .result) (k .changeable-fork .ensures) _ (n .number .given .1))
+    refused (start k .pre) (image-bytes k) cut-changing (fits k) (changed-no-fork (a .fork) (a .size) (k .changeable-fork .ensures) (n .number .given .1))
 
 same-length-2 : tie.Need-same-length-2
 same-length-2 c = search needs
@@ -69,7 +65,7 @@ returns-2 c =
     let d = c .before .before in
     let e = d .before .before .before in
     let k = e .before .before in
-    cut-done (start k .pre) (image-bytes k) (fork e) (fits k) _ (d .shorten-fork .ensures)
+    cut-done (start k .pre) (image-bytes k) (fork e) (fits k) (d .shorten-fork .ensures)
 
 pub serve-cut-spec : {M : Type 1} → statement M
 serve-cut-spec =

@@ -25,10 +25,7 @@ module _ (c : tie.After-changeable) where
 -- the file that may be changed
 file : (c : tie.After-e) → let a = start (c .before .before) .args in
     Changeable (now (a .image)) (now (a .name)) (c .e .given .0 .0) (c .e .given .0 .1 .0)
-file c =
-    let k = c .before .before in
-    let a = start k .args in
-    changed-file (now (a .image)) (now (a .name)) (k .changeable .result) (k .changeable .ensures) _ _ (c .e .given .1)
+file c = changed-file (c .before .before .changeable .ensures) (c .e .given .1)
 
 changeable-requires : tie.Need-changeable-requires
 changeable-requires c κs = search needs
@@ -52,9 +49,7 @@ returns : tie.Need-returns
 returns c =
     let n = c .before in
     let k = n .before .before in
-    let a = start k .args in
-    refused (start k .pre) (image-bytes k) (delete-changing (now (a .image)) (now (a .name))) (fits k) _
-    (changed-none (now (a .image)) (now (a .name)) (k .changeable .result) (k .changeable .ensures) _ (n .number .given .1))
+    refused (start k .pre) (image-bytes k) delete-changing (fits k) (changed-none (k .changeable .ensures) (n .number .given .1))
 
 same-length-2 : tie.Need-same-length-2
 same-length-2 c = search needs
@@ -64,7 +59,7 @@ returns-2 c =
     let d = c .before .before in
     let e = d .before .before .before in
     let k = e .before .before in
-    delete-done (start k .pre) (image-bytes k) (fits k) (file e) _ (d .take-file .ensures)
+    delete-done (start k .pre) (image-bytes k) (fits k) (file e) (d .take-file .ensures)
 
 pub serve-delete-spec : {M : Type 1} → statement M
 serve-delete-spec =

@@ -28,10 +28,7 @@ module _ (c : tie.After-lookup) where
 -- the file that the name names
 file : (c : tie.After-e) → let a = start (c .before .before) .args in
     NamedEntry (now (a .image)) (now (a .name)) (c .e .given .0 .0) (c .e .given .0 .1 .0)
-file c =
-    let l = c .before .before in
-    let a = start l .args in
-    names-file (now (a .image)) (now (a .name)) (l .lookup .result) (l .lookup .ensures) _ _ (c .e .given .1)
+file c = names-file (c .before .before .lookup .ensures) (c .e .given .1)
 
 abbrev at-entry : tie.After-read-fork → tie.After-e
 at-entry c = c .before .before
@@ -62,9 +59,8 @@ unfolding blockCount
 returns c =
     let k = c .before .before in
     let l = at-lookup k in
-    let s = start l in
-    block-beyond (s .pre) (image-bytes l) (now (s .args .name)) (s .args .fork) (s .args .place) (letters l) (omega arith)
-    _ _ (file (at-entry k)) (k .read-fork .result) (k .read-fork .ensures) (omega (arith, c .before .block-count .ensures, c .if1 .taken))
+    block-beyond (start l .pre) (image-bytes l) (letters l) (omega arith) (file (at-entry k)) (k .read-fork .ensures)
+    (omega (arith, c .before .block-count .ensures, c .if1 .taken))
 
 -- the place is that of a block
 below : (c : tie.Else1) → let k = c .before .before in let s = start (at-lookup k) in s .args .place < k .read-fork .result .physical / A (s .args .f)
@@ -76,14 +72,14 @@ cast-block-at c =
     let o = c .before in
     let k = o .before .before in
     let s = start (at-lookup k) in
-    omega (arith, few-blocks (s .pre) (file (at-entry k)) (s .args .fork) (k .read-fork .result) (k .read-fork .ensures) (s .args .place) (below o))
+    omega (arith, few-blocks (s .pre) (file (at-entry k)) (s .args .fork) (k .read-fork .ensures) (s .args .place) (below o))
 
 block-at-requires : tie.Need-block-at-requires
 block-at-requires c κs =
     let o = c .before in
     let k = o .before .before in
     let s = start (at-lookup k) in (
-      has-place (s .pre) (file (at-entry k)) (s .args .fork) (k .read-fork .result) (k .read-fork .ensures) (s .args .place) (below o),
+      has-place (s .pre) (file (at-entry k)) (s .args .fork) (k .read-fork .ensures) (s .args .place) (below o),
       long-image (s .pre),
     )
 
@@ -91,18 +87,14 @@ returns-2 : tie.Need-returns-2
 returns-2 c =
     let n = c .before in
     let l = n .before .before in
-    let s = start l in
-    block-refused (s .pre) (image-bytes l) (now (s .args .name)) (s .args .fork) (s .args .place) (letters l) (omega arith)
-    _ (names-none (now (s .args .image)) (now (s .args .name)) (l .lookup .result) (l .lookup .ensures) _ (n .number .given .1))
+    block-refused (start l .pre) (image-bytes l) (letters l) (omega arith) (names-none (l .lookup .ensures) (n .number .given .1))
 
 returns-3 : tie.Need-returns-3
 returns-3 c =
     let o = c .before .before in
     let k = o .before .before in
     let l = at-lookup k in
-    let s = start l in
-    block-served (s .pre) (image-bytes l) (now (s .args .name)) (s .args .fork) (s .args .place) (letters l) (omega arith)
-    _ _ (file (at-entry k)) (k .read-fork .result) (k .read-fork .ensures) (c .block-at .result .0) (below o) (c .block-at .ensures)
+    block-served (start l .pre) (image-bytes l) (letters l) (omega arith) (file (at-entry k)) (k .read-fork .ensures) (below o) (c .block-at .ensures)
 
 pub serve-block-spec : {M : Type 1} → statement M
 serve-block-spec =

@@ -132,7 +132,7 @@ extend-requires c κs =
     rw (has-is k) (
       few-in-volume (h .readable),
       long-image (h .readable),
-      has-chain (h .readable) (h .found) (s .args .fork) (s .args .g) (s .pre .0 .is),
+      has-chain (h .readable) (h .found) (s .args .fork) (s .pre .0 .is),
       enough _ _ _ (s .pre .1 .2) (free-blocks (h .readable)),
     )
 

@@ -36,10 +36,7 @@ module _ (c : tie.After-changeable-fork) where
 -- the fork that may be changed
 fork : (c : tie.After-e) → let a = start (c .before .before) .args in
     ChangeableFork (now (a .image)) (now (a .name)) (a .fork) (a .offset) (c .e .given .0 .0) (c .e .given .0 .1 .0)
-fork c =
-    let k = c .before .before in
-    let a = start k .args in
-    changed-fork (now (a .image)) (now (a .name)) (a .fork) (a .offset) (k .changeable-fork .result) (k .changeable-fork .ensures) _ _ (c .e .given .1)
+fork c = changed-fork (c .before .before .changeable-fork .ensures) (c .e .given .1)
 
 -- it was found, at the count of its new blocks
 abbrev at-fork : tie.After-new-blocks → tie.After-e
@@ -87,9 +84,8 @@ returns-2 c =
     let n = c .before in
     let k = n .before .before in
     let a = start k .args in
-    refused (start k .pre) (image-bytes k)
-    (write-changing (now (a .image)) (now (a .name)) (a .fork) (a .offset) (now (a .bytes)) (a .changed)) (fits k) _
-    (changed-no-fork (now (a .image)) (now (a .name)) (a .fork) (a .offset) (k .changeable-fork .result) (k .changeable-fork .ensures) _ (n .number .given .1))
+    refused (start k .pre) (image-bytes k) write-changing (fits k)
+    (changed-no-fork (a .fork) (a .offset) (k .changeable-fork .ensures) (n .number .given .1))
 
 same-length-3 : tie.Need-same-length-3
 same-length-3 c = search needs
@@ -101,7 +97,7 @@ returns-3 c =
     let n = y .before .before in
     let e = at-fork n in
     let k = e .before .before in
-    write-served (start k .pre) (fork e) (image-bytes k) (fits k) (n .new-blocks .result) (n .new-blocks .ensures) (y .if1 .left) _ (w .grow-fork .ensures)
+    write-served (start k .pre) (fork e) (image-bytes k) (fits k) (n .new-blocks .result) (n .new-blocks .ensures) (y .if1 .left) (w .grow-fork .ensures)
 
 pub serve-write-spec : {M : Type 1} → statement M
 serve-write-spec =

@@ -23,10 +23,7 @@ unlocked c = sym (past c .is-locked .ensures) ∙ c .before .if1 .left
 -- the file that the name names
 file : (c : tie.After-place) → let a = start (past (c .before .before)) .args in
     NamedEntry (now (a .image)) (now (a .name)) (c .place .given .0 .0) (c .place .given .0 .1 .0)
-file c =
-    let l = c .before .before in
-    let a = start (past l) .args in
-    names-file (now (a .image)) (now (a .name)) (l .lookup .result) (l .lookup .ensures) _ _ (c .place .given .1)
+file c = names-file (c .before .before .lookup .ensures) (c .place .given .1)
 
 is-locked-requires : tie.Need-is-locked-requires
 is-locked-requires c κs = search needs
@@ -57,9 +54,7 @@ returns-3 : tie.Need-returns-3
 returns-3 c =
     let n = c .before in
     let l = n .before .before in
-    let a = start (past l) .args in
-    barred-name (start (past l) .pre) _ (unlocked l) _
-    (names-none (now (a .image)) (now (a .name)) (l .lookup .result) (l .lookup .ensures) _ (n .number .given .1))
+    barred-name (start (past l) .pre) _ (unlocked l) _ (names-none (l .lookup .ensures) (n .number .given .1))
 
 returns-4 : tie.Need-returns-4
 returns-4 c =

@@ -12,10 +12,7 @@ start c = c .before .before .before
 -- the file that may be changed
 file : (c : tie.After-e) → let a = start (c .before .before) .args in
     Changeable (now (a .image)) (now (a .name)) (c .e .given .0 .0) (c .e .given .0 .1 .0)
-file c =
-    let k = c .before .before in
-    let a = start k .args in
-    changed-file (now (a .image)) (now (a .name)) (k .changeable .result) (k .changeable .ensures) _ _ (c .e .given .1)
+file c = changed-file (c .before .before .changeable .ensures) (c .e .given .1)
 
 -- its entry, at the reading of its fork
 abbrev at-entry : tie.After-read-fork → tie.After-e
@@ -41,15 +38,14 @@ returns c =
     let g = c .before .before in
     let e = at-entry g in
     let s = start (e .before .before) in
-    barred-16 (s .pre) (file e) (s .args .fork) (s .args .offset) (g .read-fork .result) (g .read-fork .ensures) (c .if1 .taken)
+    barred-16 (s .pre) (file e) (s .args .fork) (s .args .offset) (g .read-fork .ensures) (c .if1 .taken)
 
 returns-2 : tie.Need-returns-2
 returns-2 c =
     let n = c .before in
     let k = n .before .before in
     let a = start k .args in
-    barred-file (a .fork) (a .offset)
-    (changed-none (now (a .image)) (now (a .name)) (k .changeable .result) (k .changeable .ensures) _ (n .number .given .1))
+    barred-file (a .fork) (a .offset) (changed-none (k .changeable .ensures) (n .number .given .1))
 
 returns-3 : tie.Need-returns-3
 returns-3 c =
