@@ -4,7 +4,7 @@ ghost use lib.ListN.{length};
 use model::Fork;
 use replay_records::input;
 use replay_records::input::Field;
-use replay_records::input::ForkField;
+use replay_records::input::PlaceField;
 use replay_records::line;
 
 // The most bytes of a read's buffer.
@@ -60,13 +60,7 @@ pub fn find(image: &[u8]) -> bool {
 
 pub fn block(image: &[u8]) -> bool {
     let mut name = input::name_space();
-    let Field::Is(length) = input::name(&mut name) else {
-        return false;
-    };
-    let ForkField::Is(fork) = input::fork() else {
-        return false;
-    };
-    let Field::Is(place) = input::number64() else {
+    let PlaceField::Is(length, fork, place) = input::place_in_fork(&mut name) else {
         return false;
     };
     let answer = volume::block(image, text::first(&name, length as usize), fork, place);
@@ -91,13 +85,7 @@ fn read_into(image: &[u8], name: &[u8], fork: Fork, offset: u64, buffer: &mut [u
 
 pub fn read(image: &[u8]) -> bool {
     let mut name = input::name_space();
-    let Field::Is(length) = input::name(&mut name) else {
-        return false;
-    };
-    let ForkField::Is(fork) = input::fork() else {
-        return false;
-    };
-    let Field::Is(offset) = input::number64() else {
+    let PlaceField::Is(length, fork, offset) = input::place_in_fork(&mut name) else {
         return false;
     };
     let Field::Is(most) = input::number32() else {

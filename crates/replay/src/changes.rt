@@ -4,7 +4,7 @@ ghost use lib.ListN.{length};
 use replay_records::input;
 use replay_records::input::DateField;
 use replay_records::input::Field;
-use replay_records::input::ForkField;
+use replay_records::input::PlaceField;
 use replay_records::line;
 
 // The most bytes of a write.
@@ -52,13 +52,7 @@ pub fn create(image: &mut [u8]) -> bool {
 
 pub fn write(image: &mut [u8]) -> bool {
     let mut name = input::name_space();
-    let Field::Is(length) = input::name(&mut name) else {
-        return false;
-    };
-    let ForkField::Is(fork) = input::fork() else {
-        return false;
-    };
-    let Field::Is(offset) = input::number64() else {
+    let PlaceField::Is(length, fork, offset) = input::place_in_fork(&mut name) else {
         return false;
     };
     let mut bytes = unwritten();
@@ -82,13 +76,7 @@ pub fn write(image: &mut [u8]) -> bool {
 
 pub fn cut(image: &mut [u8]) -> bool {
     let mut name = input::name_space();
-    let Field::Is(length) = input::name(&mut name) else {
-        return false;
-    };
-    let ForkField::Is(fork) = input::fork() else {
-        return false;
-    };
-    let Field::Is(size) = input::number64() else {
+    let PlaceField::Is(length, fork, size) = input::place_in_fork(&mut name) else {
         return false;
     };
     let DateField::Is(changed) = input::date() else {

@@ -17,13 +17,19 @@ pub enum Field {
     Stop,
 }
 
-pub enum ForkField {
+enum ForkField {
     Is(Fork),
     Stop,
 }
 
 pub enum DateField {
     Is(u32),
+    Stop,
+}
+
+// The length of a name, a fork of its file, and a place or an offset in that fork.
+pub enum PlaceField {
+    Is(u64, Fork, u64),
     Stop,
 }
 
@@ -129,7 +135,7 @@ pub fn finder(space: &mut [u8; 16]) -> Field {
     Field::Is(16)
 }
 
-pub fn fork() -> ForkField {
+fn fork() -> ForkField {
     let mut b = [0u8; 1];
     if io::read_full(0, &mut b) != 1 {
         bad_record();
@@ -144,4 +150,18 @@ pub fn fork() -> ForkField {
             ForkField::Stop
         }
     }
+}
+
+// The name goes to the start of the space.
+pub fn place_in_fork(space: &mut [u8]) -> PlaceField {
+    let Field::Is(length) = name(space) else {
+        return PlaceField::Stop;
+    };
+    let ForkField::Is(which) = fork() else {
+        return PlaceField::Stop;
+    };
+    let Field::Is(place) = number64() else {
+        return PlaceField::Stop;
+    };
+    PlaceField::Is(length, which, place)
 }
