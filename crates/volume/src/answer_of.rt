@@ -28,68 +28,44 @@ pub fn of_number(number: u8) -> Outcome
 pub fn of_check(r: CheckAnswer) -> Outcome
     ensures { λ o. ⌜ o ≡ fromCheck r ⌝ }
 {
+    let mut o = of_number(r.number);
     let facts = r.facts;
-    Outcome {
-        number: r.number,
-        facts,
-        place: 0,
-        entry: no_entry(),
-        block: AllocationBlock(0),
-        count: 0,
-    }
+    o.facts = facts;
+    o
 }
 
 pub fn of_entry(r: EntryAnswer) -> Outcome
     ensures { λ o. ⌜ o ≡ fromEntry r ⌝ }
 {
+    let mut o = of_number(r.number);
     let entry = r.entry;
-    Outcome {
-        number: r.number,
-        facts: no_facts(),
-        place: 0,
-        entry,
-        block: AllocationBlock(0),
-        count: 0,
-    }
+    o.entry = entry;
+    o
 }
 
 pub fn of_find(r: FindAnswer) -> Outcome
     ensures { λ o. ⌜ o ≡ fromFind r ⌝ }
 {
+    let mut o = of_number(r.number);
+    o.place = r.place;
     let entry = r.entry;
-    Outcome {
-        number: r.number,
-        facts: no_facts(),
-        place: r.place,
-        entry,
-        block: AllocationBlock(0),
-        count: 0,
-    }
+    o.entry = entry;
+    o
 }
 
 pub fn of_block(r: BlockAnswer) -> Outcome
     ensures { λ o. ⌜ o ≡ fromBlock r ⌝ }
 {
+    let mut o = of_number(r.number);
     let block = r.block;
-    Outcome {
-        number: r.number,
-        facts: no_facts(),
-        place: 0,
-        entry: no_entry(),
-        block,
-        count: 0,
-    }
+    o.block = block;
+    o
 }
 
 pub fn of_read(r: ReadAnswer) -> Outcome
     ensures { λ o. ⌜ o ≡ fromRead r ⌝ }
 {
-    Outcome {
-        number: r.number,
-        facts: no_facts(),
-        place: 0,
-        entry: no_entry(),
-        block: AllocationBlock(0),
-        count: r.count,
-    }
+    let mut o = of_number(r.number);
+    o.count = r.count;
+    o
 }
