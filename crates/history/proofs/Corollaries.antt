@@ -1,9 +1,10 @@
--- What the auditor asks, from the claim on every run: a file that no call names stays, a delete touches no other file, "disk
--- full" means no room, a read gives what was written, and no list of calls falls out of the claim.
+-- What the auditor asks, from the claim on every run: a file that no call names stays, a delete touches no other file, no date is
+-- made up, "disk full" means no room, a read gives what was written, and no list of calls falls out of the claim.
 use Prim.Native.Nat.{ℕ, _+_, _-_, _≤_, _<_}
 use mathlib.Core.Path.{_≡_, refl, sym, ap, subst, _∙_}
 use mathlib.Core.Bool.{Bool, true, false, not, _&&_, cond}
 use mathlib.Core.List.{List, [], _∷_, _++_, append-assoc, append-nil}
+use mathlib.Core.Logic.{_⊎_, inl}
 use native.Mathlib.Omega.{arith}
 use lib.ListN.{length, drop, length-append}
 use lib.Seq.{drop-length}
@@ -20,10 +21,11 @@ use Rattle.model.specs.Calls.Call.{read, write, delete}
 use Rattle.history.specs.History.{File, History, blocksOf, noFile, heldOf, called, fileCalled, knownTo, declines, writes}
 use Rattle.model.specs.Bytes.{overwritten}
 use Rattle.history.specs.History.{changedFork, onCalled, moves, step, Told, toldBy, toldOnly, says, tells, filesIn, reading, Agrees, Event, Run}
-use Rattle.history.specs.History.{isFull, asked, changes, RoomRule, InStep, Holds, EveryRun}
+use Rattle.history.specs.History.{isFull, asked, changes, datesGiven, RoomRule, InStep, Holds, EveryRun}
 use Rattle.history.specs.Among.{HasFile, lastImage}
 use Rattle.history.specs.Untouched.{NoneNames, Untouched}
 use Rattle.history.specs.Deleting.{Deleting}
+use Rattle.history.specs.Dates.{Dates}
 use Rattle.history.specs.Room.{newBlocks, Room}
 use Rattle.history.specs.InPieces.{Writes, InPieces}
 use Rattle.history.specs.ReadBack.{ReadBack}
@@ -76,6 +78,24 @@ unfolding Deleting Untouched Run NoneNames lastImage changes nameOf
 deleting image name left given x acc m n i =
     let e : Event = record { call = delete name; given = given; left = left } in
     untouched image (e ∷ []) x acc (m, tt) i (n, tt)
+
+-- ---- Dates
+
+-- a file of the history after a call was there before, or it has the dates that the call gives it
+step-dates : (h : History) (full : Bool) (call : Call) (x : File) → In noFile x (step h full call .files)
+    → In noFile x (h .files) ⊎ datesGiven call (λ y. In noFile y (h .files)) x
+unfolding step
+step-dates h full call x = go (eqb (declines h full call) 0)
+  where
+    go : (b : Bool) → In noFile x (cond b (moves h call) h .files) → In noFile x (h .files) ⊎ datesGiven call (λ y. In noFile y (h .files)) x
+    go true i = lawful call .dates h x i
+    go false i = inl i
+
+pub dates : Dates
+unfolding Dates reading
+dates image left call given x acc m i =
+    let e : Event = record { call = call; given = given; left = left } in
+    step-dates (reading image) (isFull e) call x (in-reordered noFile x (one-step e image acc m .agrees .files) i)
 
 -- ---- Room
 

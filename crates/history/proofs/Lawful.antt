@@ -3,7 +3,8 @@
 use Prim.Native.Nat.{ℕ}
 use mathlib.Core.Path.{_≡_, refl, sym, ap, subst, _∙_}
 use mathlib.Core.Bool.{Bool, true, false, not, _&&_, cond}
-use mathlib.Core.List.{List, []}
+use mathlib.Core.List.{List, [], _∷_, _++_, map}
+use mathlib.Core.Logic.{_⊎_, inl, inr}
 use lib.ListN.{length}
 use lib.Dec.{eqb, leb, ltb}
 use borrow.Author.Tests.{not-false, ltb-true, ltb-false, lt-ltb, le-ltb}
@@ -13,9 +14,9 @@ use Rattle.model.specs.Calls.{Call, nameOf, forkGiven, Known, grown, needed, ba
 use Rattle.model.specs.Calls.{Answer, tellsFacts, tellsEntry, tellsBlock, tellsBytes}
 use Rattle.model.specs.Calls.Call.{check, entry, find, block, read, create, write, cut, delete}
 use Rattle.history.specs.History.{File, History, noFile, heldOf, called, fileCalled, knownTo, declines, onCalled, Told, toldBy, toldOnly}
-use Rattle.history.specs.History.{says, moves, asked, changes, RoomRule, Agrees}
+use Rattle.history.specs.History.{Held, newFile, changedFork, dateChanged, datesGiven, says, moves, asked, changes, RoomRule, Agrees}
 use Rattle.model.specs.declared.Fork.{Fork}
-use Rattle.laws.proofs.Reorder.{In, in-map, in-keep, in-append}
+use Rattle.laws.proofs.Reorder.{In, in-map, in-keep, in-append, from-last, from-map, from-keep}
 use Rattle.laws.proofs.Refusals.{no-check, other, other-found, other-change, past, fires, withFull, create-fed, create-never}
 use Rattle.history.proofs.Answers.{rise-needed, only-told, check-says, entry-says, find-says, read-says}
 use Rattle.history.proofs.Joined.{Done, stays}
@@ -43,6 +44,9 @@ pub record Lawful (call : Call) : Type 0 where
   -- a file that it does not change by name stays in the history
   pub keeps : (h : History) (x : File) → (changes call && called (nameOf call) x) ≡ false → In noFile x (h .files)
       → In noFile x (moves h call .files)
+  -- a file of the history was there before, or it has the dates that the call gives it
+  pub dates : (h : History) (x : File) → In noFile x (moves h call .files)
+      → In noFile x (h .files) ⊎ datesGiven call (λ y. In noFile y (h .files)) x
 
 -- ---- calls that change nothing
 
@@ -86,6 +90,7 @@ reads call d room told =
           let l = leaves image in
           record { bytes = rw l b; accepted = rw l acc; agrees = rw (l, keeps h) a; kept = rw l (stays call image) };
       keeps = λ h x n i. subst (λ (g : History). In noFile x (g .files)) (sym (keeps h)) i;
+      dates = λ h x i. inl (subst (λ (g : History). In noFile x (g .files)) (keeps h) i);
     }
 
 -- ---- calls that change the image
@@ -102,9 +107,10 @@ alters : (call : Call) → Alters call
     → ((h : History) (full : Bool) → RoomRule h call (declines h full call))
     → ((image : List ℕ) (h : History) → Accepted image → Agrees image h → Bytes image → Fits call → refusal call image ≡ 0 → Done call image h)
     → ((h : History) (x : File) → (changes call && called (nameOf call) x) ≡ false → In noFile x (h .files) → In noFile x (moves h call .files))
+    → ((h : History) (x : File) → In noFile x (moves h call .files) → In noFile x (h .files) ⊎ datesGiven call (λ y. In noFile y (h .files)) x)
     → Lawful call
 unfolding after only toldOnly
-alters call d fed room done keeps =
+alters call d fed room done keeps dates =
     let changing : changes call ≡ true = ap (λ (t : Moved). t .0) d in
     let number : (image : List ℕ) → reply call image ≡ only 0 [] = λ image. ap (λ (t : Moved). t .1 image) d in
     let say : (h : History) (n : ℕ) → says h n call ≡ toldOnly 0 [] = λ h n. ap (λ (t : Moved). t .2 h n) d in
@@ -119,6 +125,7 @@ alters call d fed room done keeps =
       told = λ image h acc a z. ap toldBy (number image) ∙ only-told 0 [] ∙ sym (say h (asked image call));
       done = done;
       keeps = keeps;
+      dates = dates;
     }
 
 -- a write gives 17 exactly where it needs more new blocks than are free
@@ -156,6 +163,37 @@ not-called : (name : List ℕ) (f : File → File) (x : File) → called name x 
 unfolding onCalled
 not-called name f x n = rw n
 
+-- the file that a create adds has the dates given
+created-dates : (name finder : List ℕ) (made changed number : ℕ) (fs : List File) (x : File)
+    → In noFile x (fs ++ (newFile number name finder made changed ∷ []))
+    → In noFile x fs ⊎ ((x .name ≡ name) × (x .created ≡ made) × (x .changed ≡ changed))
+unfolding newFile
+created-dates name finder made changed number fs x i = go (from-last noFile x fs (newFile number name finder made changed) i)
+  where
+    go : In noFile x fs ⊎ (newFile number name finder made changed ≡ x)
+        → In noFile x fs ⊎ ((x .name ≡ name) × (x .created ≡ made) × (x .changed ≡ changed))
+    go (inl j) = inl j
+    go (inr e) = inr (sym (ap (λ (y : File). y .name) e), sym (ap (λ (y : File). y .created) e), sym (ap (λ (y : File). y .changed) e))
+
+-- the file whose fork a write or a cut changes has the date of change given, and its own date of creation
+changed-dates : (name : List ℕ) (fork : Fork) (f : Held → Held) (changed : ℕ) (fs : List File) (x : File)
+    → In noFile x (map (onCalled name (changedFork fork f changed)) fs)
+    → In noFile x fs ⊎ dateChanged name changed (λ y. In noFile y fs) x
+unfolding onCalled changedFork called
+changed-dates name fork f changed fs x i =
+    let s = from-map noFile x (onCalled name (changedFork fork f changed)) fs i in
+    go (s .0) (s .1) (called name (s .0)) refl (s .2)
+  where
+    go : (y : File) → In noFile y fs → (b : Bool) → called name y ≡ b → cond b (changedFork fork f changed y) y ≡ x
+        → In noFile x fs ⊎ dateChanged name changed (λ y. In noFile y fs) x
+    go y j true c e =
+        inr (
+          subst (λ (z : File). called name z ≡ true) e c,
+          sym (ap (λ (z : File). z .changed) e),
+          (y, j, ap (λ (z : File). z .number) e, ap (λ (z : File). z .created) e),
+        )
+    go y j false c e = inl (subst (λ (z : File). In noFile z fs) e j)
+
 -- ---- the calls
 
 -- a call none of whose tests gives 17
@@ -164,7 +202,7 @@ unfolding declines
 never call n h full = n (knownTo h full (nameOf call) (forkGiven call))
 
 pub lawful : (call : Call) → Lawful call
-unfolding change moves reply says changes refuses withFull RoomRule nameOf toldBy only toldOnly tellsFacts tellsEntry tellsBlock tellsBytes
+unfolding change moves reply says changes datesGiven refuses withFull RoomRule nameOf toldBy only toldOnly tellsFacts tellsEntry tellsBlock tellsBytes
 lawful check = reads check refl (never check (λ k. no-check)) check-says
 lawful (entry place) =
     reads (entry place) refl (never (entry place) (λ k. other (leb (k .files) place) 13 refl no-check)) (entry-says place)
@@ -183,18 +221,22 @@ lawful (create name finder made changed) =
     (never (create name finder made changed) (create-never name finder made changed))
     (create-done name finder made changed)
     (λ h x n i. in-append noFile x (h .files) _ i)
+    (λ h x. created-dates name finder made changed _ (h .files) x)
 lawful (write name fork offset bytes changed) =
     alters (write name fork offset bytes changed) refl (λ k. refl)
     (write-room name fork offset bytes changed)
     (write-done name fork offset bytes changed)
     (λ h x n i. in-map noFile x _ (not-called name _ x n) (h .files) i)
+    (λ h x. changed-dates name fork _ changed (h .files) x)
 lawful (cut name fork size changed) =
     alters (cut name fork size changed) refl (λ k. refl)
     (never (cut name fork size changed) (λ k. other-change name k (other (ltb (k .logical) size) 16 refl no-check)))
     (cut-done name fork size changed)
     (λ h x n i. in-map noFile x _ (not-called name _ x n) (h .files) i)
+    (λ h x. changed-dates name fork _ changed (h .files) x)
 lawful (delete name) =
     alters (delete name) refl (λ k. refl)
     (never (delete name) (λ k. other-change name k no-check))
     (delete-done name)
     (λ h x n i. in-keep noFile x (λ y. not (called name y)) (rw n) (h .files) i)
+    (λ h x i. inl (from-keep noFile x (λ y. not (called name y)) (h .files) i))

@@ -242,6 +242,8 @@ pub record Following : Type 1 where
   pub directories : ℕ
   -- when its number is 17
   pub room : History → ℕ → Type 0
+  -- the dates that it gives to a file that it made or changed; `was` says which files were there before
+  pub dates : (File → Type 0) → File → Type 0
 
 -- the blocks that an image gives to the named fork
 unfoldable pub blocksNamed : List ℕ → List ℕ → Fork → List ℕ
@@ -250,6 +252,10 @@ blocksNamed image name fork = forkBlocks (mapEntry image) (A (factsOf image)) (f
 -- no call but a write gets 17
 abbrev neverFull : History → ℕ → Type 0
 neverFull h number = number ≡ 17 → ⊥
+
+-- no file gets a date
+abbrev noDates : (File → Type 0) → File → Type 0
+noDates was x = ⊥
 
 -- Check, entry, find, block and read change nothing. They differ in what is told, and entry in that a place is asked.
 abbrev reads : (History → ℕ → Told) → (List ℕ → ℕ) → Following
@@ -261,11 +267,12 @@ reads says asked = record {
   blocks = λ image. [];
   directories = 0;
   room = neverFull;
+  dates = noDates;
 }
 
 -- the calls that change the image tell their number alone, and one directory block may differ
-abbrev alters : (History → History) → (List ℕ → List ℕ) → (History → ℕ → Type 0) → Following
-alters moves blocks room = record {
+abbrev alters : (History → History) → (List ℕ → List ℕ) → (History → ℕ → Type 0) → ((File → Type 0) → File → Type 0) → Following
+alters moves blocks room dates = record {
   moves = moves;
   says = λ h n. toldOnly 0 [];
   asked = λ image. 0;
@@ -273,7 +280,13 @@ alters moves blocks room = record {
   blocks = blocks;
   directories = 1;
   room = room;
+  dates = dates;
 }
+
+-- the file of that name has the date of change as given, and the number and the date of creation that it had
+abbrev pub dateChanged : List ℕ → ℕ → (File → Type 0) → File → Type 0
+dateChanged name changed was x =
+    (called name x ≡ true) × (x .changed ≡ changed) × ((y : File) × was y × (y .number ≡ x .number) × (y .created ≡ x .created))
 
 -- no file is asked by its place
 abbrev noPlace : List ℕ → ℕ
@@ -312,25 +325,32 @@ following (create name finder created changed) = alters
     })
     (λ image. [])
     neverFull
+    (λ was x. (x .name ≡ name) × (x .created ≡ created) × (x .changed ≡ changed))
 -- A write that passes the checks before 17 gets 17 exactly when it needs more new blocks than are free.
 following (write name fork offset bytes changed) = alters
     (λ h. record { facts = h .facts; files = map (onCalled name (changedFork fork (writes (A (h .facts)) offset bytes) changed)) (h .files) })
     (λ image. blocksNamed image name fork)
     (λ h number. (number ≡ 17) ↔ NoRoom h name fork offset bytes)
+    (dateChanged name changed)
 following (cut name fork size changed) = alters
     (λ h. record { facts = h .facts; files = map (onCalled name (changedFork fork (cuts (A (h .facts)) size) changed)) (h .files) })
     (λ image. blocksNamed image name fork)
     neverFull
+    (dateChanged name changed)
 -- Delete drops the file.
 following (delete name) = alters
     (λ h. record { facts = h .facts; files = keep (λ x. not (called name x)) (h .files) })
     (λ image. blocksNamed image name Data ++ blocksNamed image name Resource)
     neverFull
+    noDates
 
 -- ---- The history after a call, and what it tells of it
 
 unfoldable pub moves : History → Call → History
 moves h call = following call .moves h
+
+unfoldable pub datesGiven : Call → (File → Type 0) → File → Type 0
+datesGiven call = following call .dates
 
 -- Refused calls change nothing.
 unfoldable pub step : History → Bool → Call → History

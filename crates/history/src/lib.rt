@@ -1,4 +1,5 @@
 // The claim on every list of calls, and what follows from it for the auditor.
+ghost use Rattle.history.specs.Dates.{Dates};
 ghost use Rattle.history.specs.Deleting.{Deleting};
 ghost use Rattle.history.specs.EveryList.{EveryList};
 ghost use Rattle.history.specs.History.{EveryRun};
@@ -18,6 +19,11 @@ pub fn every_run()
 // dates and all the rest.
 pub fn untouched()
     ensures { λ _. ⌜ Untouched ⌝ }
+{}
+
+// A call leaves each file's dates as they were, and gives the file that it makes or changes the dates that it was given.
+pub fn dates()
+    ensures { λ _. ⌜ Dates ⌝ }
 {}
 
 // Deleting one file changes no byte and no date of another.

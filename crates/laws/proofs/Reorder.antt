@@ -1,9 +1,10 @@
 -- Laws of lists that the directory needs: tests under a map, the first that passes a test, the only one that does, files that are
--- the history's in some order, and an element that stays in a list.
+-- the history's in some order, an element that stays in a list, and where an element of a changed list comes from.
 use Prim.Native.Nat.{ℕ, zero, suc, _<_}
 use mathlib.Core.Path.{_≡_, refl, sym, ap, _∙_}
 use mathlib.Core.Bool.{Bool, true, false, not, _&&_, _||_, cond}
 use mathlib.Core.List.{List, [], _∷_, _++_, map, append-nil, map-append}
+use mathlib.Core.Logic.{_⊎_, inl, inr}
 use native.Mathlib.Omega.{arith}
 use lib.ListN.{length, getD, length-append, List·getD-append}
 use borrow.Author.Tests.{not-true}
@@ -292,3 +293,39 @@ module _ {A : Type 0} (d x : A) where
 
   pub in-append : (xs ys : List A) → In xs → In (xs ++ ys)
   in-append xs ys h = (h .0, omega (arith, h .1, length-append xs ys), List·getD-append xs ys d (h .0) (h .1) ∙ h .2)
+
+-- ---- where an element comes from
+
+-- an element of a list with one more at its end, of a map, of those kept
+module _ {A : Type 0} (d x : A) where
+  longer : {P : Type 0} (y : A) (xs : List A) → In d x xs ⊎ P → In d x (y ∷ xs) ⊎ P
+  longer y xs (inl i) = inl (later d x y xs i)
+  longer y xs (inr p) = inr p
+
+  pub from-last : (xs : List A) (y : A) → In d x (xs ++ (y ∷ [])) → In d x xs ⊎ (y ≡ x)
+  from-last xs y h = go xs (h .0) (h .1) (h .2)
+    where
+      go : (xs : List A) (i : ℕ) → i < length (xs ++ (y ∷ [])) → getD (xs ++ (y ∷ [])) i d ≡ x → In d x xs ⊎ (y ≡ x)
+      go [] zero l e = inr e
+      go [] (suc i) l e = absurd (omega arith)
+      go (z ∷ xs) zero l e = inl (0, omega arith, e)
+      go (z ∷ xs) (suc i) l e = longer z xs (go xs i (omega arith) e)
+
+  pub from-map : (f : A → A) (xs : List A) → In d x (map f xs) → (y : A) × In d y xs × (f y ≡ x)
+  from-map f xs h = go xs (h .0) (h .1) (h .2)
+    where
+      go : (xs : List A) (i : ℕ) → i < length (map f xs) → getD (map f xs) i d ≡ x → (y : A) × In d y xs × (f y ≡ x)
+      go [] i l e = absurd (omega arith)
+      go (z ∷ xs) zero l e = (z, (0, omega arith, refl), e)
+      go (z ∷ xs) (suc i) l e = let s = go xs i (omega arith) e in (s .0, later d (s .0) z xs (s .1), s .2)
+
+  pub from-keep : (p : A → Bool) (xs : List A) → In d x (keep p xs) → In d x xs
+  unfolding keep
+  from-keep p [] h = h
+  from-keep p (y ∷ xs) h = go (p y) (from-keep p xs) (h .0) (h .1) (h .2)
+    where
+      go : (b : Bool) → (In d x (keep p xs) → In d x xs) → (i : ℕ) → i < length (cond b (y ∷ keep p xs) (keep p xs))
+          → getD (cond b (y ∷ keep p xs) (keep p xs)) i d ≡ x → In d x (y ∷ xs)
+      go true from zero l e = (0, omega arith, e)
+      go true from (suc i) l e = later d x y xs (from (i, omega arith, e))
+      go false from i l e = later d x y xs (from (i, l, e))
