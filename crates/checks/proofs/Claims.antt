@@ -23,24 +23,25 @@ module _ (e : ℕ → ℕ) (n a : ℕ) where
     pub claimed : claimAll e n a t gs ≡ claimAll e n a u hs
     pub marks : marked t (ownedBlocks e a gs) ≡ marked u (ownedBlocks e a hs)
 
-  pub onward-none : (t : List ℕ) (gs : List ForkFacts) → Onward t gs t gs
-  onward-none t gs = record { claimed = refl; marks = refl }
+module _ {e : ℕ → ℕ} {n a : ℕ} {t : List ℕ} {gs : List ForkFacts} where
+  pub onward-none : Onward e n a t gs t gs
+  onward-none = record { claimed = refl; marks = refl }
 
-  module _ (t : List ℕ) (gs : List ForkFacts) (u : List ℕ) where
+  module _ {u : List ℕ} where
     -- the same forks
-    pub onward-same : {hs ks : List ForkFacts} → Onward t gs u hs → hs ≡ ks → Onward t gs u ks
+    pub onward-same : {hs ks : List ForkFacts} → Onward e n a t gs u hs → hs ≡ ks → Onward e n a t gs u ks
     onward-same o h = rw h at o
 
     -- no fork is left
-    pub onward-end : Onward t gs u [] → Claims e n a t gs true u
+    pub onward-end : Onward e n a t gs u [] → Claims e n a t gs true u
     onward-end o = record {
       claimed = sym (o .claimed ∙ claim-none e n a u);
       marks = λ _. marked-none e a u ∙ sym (o .marks);
     }
 
     -- the next fork is g: what its claim gave, and the marks that it left
-    module _ (g h : ForkFacts) (hs : List ForkFacts) (o : Onward t gs u (g ∷ hs)) (q : h ≡ g) (r : Bool) (c : r ≡ claims e n a u h) (v : List ℕ) where
-      pub onward-claim : r ≡ true → (r ≡ true → v ≡ marked u (forkBlocks e a h)) → Onward t gs v hs
+    module _ {g h : ForkFacts} {hs : List ForkFacts} (o : Onward e n a t gs u (g ∷ hs)) (q : h ≡ g) {r : Bool} (c : r ≡ claims e n a u h) {v : List ℕ} where
+      pub onward-claim : r ≡ true → (r ≡ true → v ≡ marked u (forkBlocks e a h)) → Onward e n a t gs v hs
       onward-claim y m =
           let w : v ≡ marked u (forkBlocks e a g) = m y ∙ ap (λ (k : ForkFacts). marked u (forkBlocks e a k)) q in
           record {
@@ -55,13 +56,13 @@ module _ (e : ℕ → ℕ) (n a : ℕ) where
       }
 
 -- the forks of an entry more
-pub forks-more : (es : List (List ℕ)) (b : List ℕ) (ds : List (List ℕ)) → es ≡ b ∷ ds → forksIn es ≡ forkOf Data b ∷ forkOf Resource b ∷ forksIn ds
+pub forks-more : {es ds : List (List ℕ)} {b : List ℕ} → es ≡ b ∷ ds → forksIn es ≡ forkOf Data b ∷ forkOf Resource b ∷ forksIn ds
 unfolding forksIn
-forks-more es b ds h = ap forksIn h
+forks-more h = ap forksIn h
 
-pub forks-none : (es : List (List ℕ)) → es ≡ [] → forksIn es ≡ []
+pub forks-none : {es : List (List ℕ)} → es ≡ [] → forksIn es ≡ []
 unfolding forksIn
-forks-none es h = ap forksIn h
+forks-none h = ap forksIn h
 
 -- ---- checks 8 to 10
 

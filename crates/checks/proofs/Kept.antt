@@ -74,11 +74,11 @@ pub record Kept (field : Field) (image : List ℕ) (all left : List (List ℕ)) 
   pub filled : Filled image table
   pub known : (i : ℕ) → Occupied table i → (p : List ℕ → Bool) → p (occupant image table i) ≡ true → any p done ≡ true
 
-module _ (field : Field) (image : List ℕ) (all : List (List ℕ)) where
+module _ {field : Field} {image : List ℕ} {all : List (List ℕ)} {table : List ℕ} where
   -- at first
-  pub kept-none : (table : List ℕ) → Clear table → Kept field image all all table
+  pub kept-none : Clear table → Kept field image all all table
   unfolding distinct
-  kept-none table c = record {
+  kept-none c = record {
     done = [];
     whole = refl;
     apart = refl;
@@ -89,23 +89,23 @@ module _ (field : Field) (image : List ℕ) (all : List (List ℕ)) where
   }
 
   -- the same entries left
-  pub kept-same : {table : List ℕ} {left rest : List (List ℕ)} → Kept field image all left table → left ≡ rest → Kept field image all rest table
+  pub kept-same : {left rest : List (List ℕ)} → Kept field image all left table → left ≡ rest → Kept field image all rest table
   kept-same k r = rw r at k
 
   -- where none is left, all differ
-  pub kept-end : (table : List ℕ) → Kept field image all [] table → distinct (sameBy field) all ≡ true
-  kept-end table k = ap (distinct (sameBy field)) (k .whole ∙ append-nil (k .done)) ∙ k .apart
+  pub kept-end : Kept field image all [] table → distinct (sameBy field) all ≡ true
+  kept-end k = ap (distinct (sameBy field)) (k .whole ∙ append-nil (k .done)) ∙ k .apart
 
   -- where the next is the same as an earlier one, they do not
-  pub kept-met : (table e : List ℕ) (left : List (List ℕ)) → Kept field image all (e ∷ left) table → Met field image table e
+  pub kept-met : {e : List ℕ} {left : List (List ℕ)} → Kept field image all (e ∷ left) table → Met field image table e
       → distinct (sameBy field) all ≡ false
-  kept-met table e left k m =
+  kept-met {e} {left} k m =
       ap (distinct (sameBy field)) (k .whole)
       ∙ distinct-not (sameBy field) e (k .done) left (k .known (m .slot) (m .held) (λ d. sameBy field d e) (m .same))
 
 -- the next entry e is put at its free slot i
-module _ (field : Field) (image table : List ℕ) (long : length table ≡ 6400) (e : EntryAt) (stands : Stands image e)
-    (i : ℕ) (free : FreeAt field image table e i) where
+module _ {field : Field} {image table : List ℕ} (long : length table ≡ 6400) {e : EntryAt} (stands : Stands image e)
+    {i : ℕ} (free : FreeAt field image table e i) where
   -- the table then
   after : List ℕ
   after = set table i (e .start + 1)
@@ -168,10 +168,10 @@ module _ (field : Field) (image table : List ℕ) (long : length table ≡ 6400)
           omega (arith, free .free)
 
   -- e is one of those done
-  pub kept-more : (all left : List (List ℕ)) → Kept field image all (bytesAt image e ∷ left) table
+  pub kept-more : {all left : List (List ℕ)} → Kept field image all (bytesAt image e ∷ left) table
       → Kept field image all left (set table i (e .start + 1))
   unfolding after
-  kept-more all left k = record {
+  kept-more {all} {left} k = record {
     done = k .done ++ (bytesAt image e ∷ []);
     whole = k .whole ∙ sym (append-assoc (k .done) (bytesAt image e ∷ []) left);
     apart =

@@ -37,14 +37,14 @@ none-left image c h p = rw p at h
 
 -- ---- check 6
 
-module _ (image : List ℕ) (c : Cursor) where
-  pub six-more : (e : EntryAt) (d : Cursor) → Moves image c e d → fires6 (restOf image c) ≡ fires6 (restOf image d)
-  unfolding fires6 every
-  six-more e d m = rw (m .rest, m .good)
+pub six-none : {es : List (List ℕ)} → es ≡ [] → fires6 es ≡ false
+unfolding fires6 every
+six-none r = rw r
 
-  pub six-none : restOf image c ≡ [] → fires6 (restOf image c) ≡ false
+module _ {image : List ℕ} {c : Cursor} where
+  pub six-more : {e : EntryAt} {d : Cursor} → Moves image c e d → fires6 (restOf image c) ≡ fires6 (restOf image d)
   unfolding fires6 every
-  six-none r = rw r
+  six-more m = rw (m .rest, m .good)
 
   pub six-fails : Fails image c → fires6 (restOf image c) ≡ true
   unfolding fires6 every
@@ -53,7 +53,7 @@ module _ (image : List ℕ) (c : Cursor) where
 -- a reading that passes it: the entries behind the next one do too, and no step finds one that fails
 module _ {image : List ℕ} {c : Cursor} (p : Passes image c) where
   pub passes-more : {e : EntryAt} {d : Cursor} → Moves image c e d → Passes image d
-  passes-more {e} {d} m = record { fits = m .fits; good = sym (six-more image c e d m) ∙ p .good }
+  passes-more m = record { fits = m .fits; good = sym (six-more m) ∙ p .good }
 
   pub never-fails : {s : Step} → Stepped image c s → s ≡ Bad → ⊥
-  never-fails h q = so-not (fires6 (restOf image c)) (p .good) (six-fails image c (failed h q))
+  never-fails h q = so-not (fires6 (restOf image c)) (p .good) (six-fails (failed h q))

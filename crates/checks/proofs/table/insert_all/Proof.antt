@@ -38,7 +38,7 @@ free : (c : tie.After-i Inv-loop μ-loop) → let k = entry c in let l = at-loop
 free c = found-free _ _ _ _ _ (c .before .before .probe .ensures) _ (c .i .given .1)
 
 loop-holds : tie.Need-loop-holds Inv-loop μ-loop
-loop-holds c = (c .before .pre .0, kept-none _ _ _ _ (c .before .pre .1))
+loop-holds c = (c .before .pre .0, kept-none (c .before .pre .1))
 
 advance-requires : tie.Need-advance-requires Inv-loop μ-loop
 advance-requires c κs = search needs
@@ -73,7 +73,7 @@ loop-again c =
     let kept = at-loop k .loop .inv .1 in
     let s = step k in
     let m = s .moves in
-    (s .passes, kept-more _ _ _ (kept .long) _ (m .stands) _ (free (c .before .before)) _ _ (kept-same _ _ _ kept (m .rest)))
+    (s .passes, kept-more (kept .long) (m .stands) (free (c .before .before)) (kept-same kept (m .rest)))
 
 enum-told : tie.Need-enum-told Inv-loop μ-loop
 enum-told c = search needs
@@ -82,7 +82,7 @@ returns : tie.Need-returns Inv-loop μ-loop
 returns c =
     let p = c .before .before in
     let k = probed p in
-    kept-met _ _ _ _ _ _ (kept-same _ _ _ (at-loop k .loop .inv .1) (step k .moves .rest)) (found-met _ _ _ _ _ (p .probe .ensures) (c .enum-told .given .1))
+    kept-met (kept-same (at-loop k .loop .inv .1) (step k .moves .rest)) (found-met _ _ _ _ _ (p .probe .ensures) (c .enum-told .given .1))
 
 enum-told-2 : tie.Need-enum-told-2 Inv-loop μ-loop
 enum-told-2 c = search needs
@@ -96,7 +96,7 @@ enum-told-3 c = search needs
 returns-3 : tie.Need-returns-3 Inv-loop μ-loop
 returns-3 c =
     let n = c .before .before in
-    kept-end _ _ _ _ (kept-same _ _ _ (n .before .loop .inv .1) (none-left _ _ (n .advance .ensures) (c .enum-told3 .given .1)))
+    kept-end (kept-same (n .before .loop .inv .1) (none-left _ _ (n .advance .ensures) (c .enum-told3 .given .1)))
 
 pub insert-all-spec : {M : Type 1} → statement M
 insert-all-spec =

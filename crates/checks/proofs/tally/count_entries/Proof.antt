@@ -62,7 +62,7 @@ loop-again c =
     (λ w. every-pass (m .rest) (goodNumber _) (l .numbered) (c .if1 .numbered) (good ∙ not-false _ (w .0 .left)) (w .1))
     (c .if1 .came)
     in
-    (m .fits, omega arith, l .inv .2 ∙ six-more _ _ _ _ m, omega arith, l .inv .4 ∙ numbers)
+    (m .fits, omega arith, l .inv .2 ∙ six-more m, omega arith, l .inv .4 ∙ numbers)
 
 enum-told : tie.Need-enum-told Inv-loop μ-loop
 enum-told c = search needs
@@ -73,10 +73,10 @@ returns c =
     let n = c .before .before in
     let l = n .before .loop in
     let a = n .before .before .before .args in
-    let none = ended (now (a .image)) (l .c) (n .next .ensures) (c .enum-told .given .1) in
+    let none = ended _ _ (n .next .ensures) (c .enum-told .given .1) in
     let long = ap (length {A = List ℕ}) none in
     record {
-      six = sym (l .inv .2 ∙ six-none (now (a .image)) (l .c) none);
+      six = sym (l .inv .2 ∙ six-none none);
       counted = λ _. omega arith;
       tested = λ _. sym (l .inv .4 ∙ ap (λ (es : List (List ℕ)). l .numbered && every (goodNumber (a .next)) es) none ∙ and-true (l .numbered));
     }
@@ -88,9 +88,8 @@ returns-2 : tie.Need-returns-2 Inv-loop μ-loop
 returns-2 c =
     let n = c .before .before in
     let l = n .before .loop in
-    let image = now (n .before .before .before .args .image) in
     record {
-      six = sym (l .inv .2 ∙ six-fails image (l .c) (failed (n .next .ensures) (c .enum-told2 .given .1)));
+      six = sym (l .inv .2 ∙ six-fails (failed (n .next .ensures) (c .enum-told2 .given .1)));
       counted = λ h. absurd (differs h);
       tested = λ h. absurd (differs h);
     }

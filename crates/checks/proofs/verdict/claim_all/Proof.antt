@@ -48,7 +48,7 @@ Left c u hs =
 
 -- before the entry's data fork is claimed
 first : (c : tie.After-e Inv-loop μ-loop) → Left c (at-loop c .loop .marks) (own c Data ∷ own c Resource ∷ behind c)
-first c = onward-same _ _ _ _ _ _ (at-loop c .loop .inv .1) (forks-more _ _ _ (step c .moves .rest))
+first c = onward-same (at-loop c .loop .inv .1) (forks-more (step c .moves .rest))
 
 -- the entry, from its forks' reading; the data fork's, from its claim; the entry, from behind that claim
 abbrev at-entry : tie.After-read-fork Inv-loop μ-loop → tie.After-e Inv-loop μ-loop
@@ -69,11 +69,11 @@ second : (c : tie.Else1 Inv-loop μ-loop) → let k = entry c in Left k (c .befo
 second c =
     let claim = c .before in
     let read = at-read claim in
-    onward-claim _ _ _ _ _ _ _ _ _ (first (at-entry read)) (read .read-fork .ensures) _ (claim .claim-fork .ensures .0) _
+    onward-claim (first (at-entry read)) (read .read-fork .ensures) (claim .claim-fork .ensures .0)
     (not-false _ (c .if1 .left)) (claim .claim-fork .ensures .1)
 
 loop-holds : tie.Need-loop-holds Inv-loop μ-loop
-loop-holds c = (c .before .pre .1, onward-none _ _ _ _ _)
+loop-holds c = (c .before .pre .1, onward-none)
 
 advance-requires : tie.Need-advance-requires Inv-loop μ-loop
 advance-requires c κs = search needs
@@ -91,7 +91,7 @@ returns : tie.Need-returns Inv-loop μ-loop
 returns c =
     let claim = c .before in
     let read = at-read claim in
-    onward-not _ _ _ _ _ _ _ _ _ (first (at-entry read)) (read .read-fork .ensures) _ (claim .claim-fork .ensures .0) _ (not-true _ (c .if1 .taken))
+    onward-not (first (at-entry read)) (read .read-fork .ensures) (claim .claim-fork .ensures .0) (not-true _ (c .if1 .taken))
 
 read-fork-requires-2 : tie.Need-read-fork-requires-2 Inv-loop μ-loop
 read-fork-requires-2 c κs = step (entry c) .moves .stands
@@ -103,7 +103,7 @@ returns-2 : tie.Need-returns-2 Inv-loop μ-loop
 returns-2 c =
     let claim = c .before in
     let read = claim .before .before in
-    onward-not _ _ _ _ _ _ _ _ _ (second (read .before)) (read .read-fork2 .ensures) _ (claim .claim-fork2 .ensures .0) _ (not-true _ (c .if2 .taken))
+    onward-not (second (read .before)) (read .read-fork2 .ensures) (claim .claim-fork2 .ensures .0) (not-true _ (c .if2 .taken))
 
 loop-less : tie.Need-loop-less Inv-loop μ-loop
 loop-less c = step (past (c .before)) .moves .less
@@ -113,7 +113,7 @@ loop-again c =
     let claim = c .before in
     let read = claim .before .before in (
       step (past claim) .passes,
-      onward-claim _ _ _ _ _ _ _ _ _ (second (read .before)) (read .read-fork2 .ensures) _ (claim .claim-fork2 .ensures .0) _
+      onward-claim (second (read .before)) (read .read-fork2 .ensures) (claim .claim-fork2 .ensures .0)
           (not-false _ (c .if2 .left)) (claim .claim-fork2 .ensures .1),
     )
 
@@ -123,7 +123,7 @@ enum-told c = search needs
 returns-3 : tie.Need-returns-3 Inv-loop μ-loop
 returns-3 c =
     let n = c .before .before in
-    onward-end _ _ _ _ _ _ (onward-same _ _ _ _ _ _ (n .before .loop .inv .1) (forks-none _ (none-left _ _ (n .advance .ensures) (c .enum-told .given .1))))
+    onward-end (onward-same (n .before .loop .inv .1) (forks-none (none-left _ _ (n .advance .ensures) (c .enum-told .given .1))))
 
 pub claim-all-spec : {M : Type 1} → statement M
 claim-all-spec =
