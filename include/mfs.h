@@ -1,5 +1,5 @@
 /*
- * mfs.h: the nine calls on images of MFS disks, for C and C++ on x86-64 Linux.
+ * mfs.h: the calls on images of MFS disks, for C and C++ on x86-64 Linux.
  * Build the archive by `rt staticlib archive` and link target/staticlib/libarchive.a.
  *
  * The image is the whole disk, one run of bytes that the caller lends. Every call checks it first, so a call on any bytes is

@@ -1,5 +1,5 @@
 /*
- * The nine calls of the archive on known answers: document 01's disk HALL, its P cases, and each number that a call can give.
+ * The calls of the archive on known answers: document 01's disk HALL, its P cases, and each number that a call can give.
  * usage: calls HALL-IMAGE. A line for each test; exit status 1 where one fails.
  */
 #include <stdio.h>
@@ -203,7 +203,7 @@ static void no_change(const uint8_t *name, size_t size, uint8_t number)
     refuses_delete(HALL, name, size, number);
 }
 
-static void all_nine_refuse(size_t length, uint8_t number)
+static void all_refuse(size_t length, uint8_t number)
 {
     keep(length);
     refuses_check(length, number);
@@ -217,12 +217,12 @@ static void all_nine_refuse(size_t length, uint8_t number)
     refuses_delete(length, WEEK1, number);
 }
 
-/* HALL with another byte is refused by all nine. */
+/* HALL with another byte is refused by every call. */
 static void byte_refused(size_t at, uint8_t byte, uint8_t number)
 {
     start();
     image[at] = byte;
-    all_nine_refuse(HALL, number);
+    all_refuse(HALL, number);
 }
 
 /* ---- the tests: known answers of each call */
@@ -384,7 +384,7 @@ static void fork_numbers(void)
 static void p1(void)
 {
     memcpy(image + 1088, "\xab\xcd\xef", 3);
-    all_nine_refuse(HALL, MFS_BAD_MAP_ENTRY);
+    all_refuse(HALL, MFS_BAD_MAP_ENTRY);
     large(391);
     memcpy(image + 1088, "\x12\x31\x87", 3);
     image[1088 + (0x123 - 2) * 3 / 2 + 1] = 1;
@@ -497,17 +497,17 @@ static void of_800_blocks(void)
     keep(LARGE);
     EXPECT(mfs_check(image, LARGE).number == MFS_SUCCESS && as_wanted(LARGE));
     large(392);
-    all_nine_refuse(LARGE, MFS_BAD_LAYOUT);
+    all_refuse(LARGE, MFS_BAD_LAYOUT);
 }
 
 /* ---- the tests: each number that refuses */
 
 static void n1(void)
 {
-    all_nine_refuse(0, MFS_BAD_LENGTH);
-    all_nine_refuse(HALL - 1, MFS_BAD_LENGTH);
-    all_nine_refuse(7 * 512, MFS_BAD_LENGTH);
-    all_nine_refuse(MOST, MFS_BAD_LENGTH);
+    all_refuse(0, MFS_BAD_LENGTH);
+    all_refuse(HALL - 1, MFS_BAD_LENGTH);
+    all_refuse(7 * 512, MFS_BAD_LENGTH);
+    all_refuse(MOST, MFS_BAD_LENGTH);
 }
 
 static void n2(void)

@@ -1,4 +1,4 @@
-// The nine calls for programs in C and other languages: each is the call of `volume`, with a number for the fork.
+// The calls for programs in C and other languages: each is the call of `volume`, with a number for the fork.
 // include/mfs.h declares them.
 ghost use mathlib.Core.Path.{_≡_};
 ghost use Rattle.model.specs.Calls.{Call, Does};

@@ -38,6 +38,7 @@ module _ (e : ℕ → ℕ) (n a : ℕ) (t : List ℕ) (g : ForkFacts) where
 
   -- a sound fork has at most N blocks
   pub sound-most : SoundFork e n a g → (g .start .0 ≡ 0 → ⊥) → g .physical / a ≤ n
+  unfolding blockCount
   sound-most s z = chain-most e n (g .physical / a) (g .start .0) (chain-runs e n (s .chain z))
 
   -- no start and no length
@@ -141,20 +142,20 @@ abbrev pub Marks : List ℕ → (ℕ → ℕ) → Type 0
 Marks t c = (b : ℕ) → b < 642 → getD t b 0 ≡ c b
 
 -- the blocks are 2 to N+1, and each stands once
-abbrev Within : ℕ → List ℕ → Type 0
-Within n bs = (b : ℕ) → 1 ≤ times b bs → (2 ≤ b) × (b ≤ n + 1)
+abbrev InBlocks : ℕ → List ℕ → Type 0
+InBlocks n bs = (b : ℕ) → 1 ≤ times b bs → (2 ≤ b) × (b ≤ n + 1)
 
 abbrev Once : List ℕ → Type 0
 Once bs = (b : ℕ) → times b bs ≤ 1
 
-abbrev Clear : (ℕ → ℕ) → List ℕ → Type 0
-Clear c bs = (b : ℕ) → 1 ≤ times b bs → c b ≡ 0
+abbrev Unmet : (ℕ → ℕ) → List ℕ → Type 0
+Unmet c bs = (b : ℕ) → 1 ≤ times b bs → c b ≡ 0
 
 other : (y x : ℕ) (bs : List ℕ) → times x (x ∷ bs) ≤ 1 → 1 ≤ times y bs → y ≡ x → ⊥
 other y x bs d p q = let r : 1 ≤ times x bs = rw q at p in omega (arith, times-head x bs)
 
 module _ (n : ℕ) (small : n ≤ 640) where
-  fresh-clear : (t bs : List ℕ) (c : ℕ → ℕ) → Marks t c → Within n bs → fresh t bs ≡ true → Clear c bs
+  fresh-clear : (t bs : List ℕ) (c : ℕ → ℕ) → Marks t c → InBlocks n bs → fresh t bs ≡ true → Unmet c bs
   unfolding fresh times
   fresh-clear t [] c m w h b p = absurd (omega arith)
   fresh-clear t (x ∷ bs) c m w h b p =
@@ -164,7 +165,7 @@ module _ (n : ℕ) (small : n ≤ 640) where
         | no q ↦ fresh-clear t bs c m (λ y i. w y (omega (arith, times-tail y x bs))) (r .1) b (omega (arith, times-skip b x bs q))
       ]
 
-  clear-fresh : (t bs : List ℕ) (c : ℕ → ℕ) → Marks t c → Within n bs → Clear c bs → fresh t bs ≡ true
+  clear-fresh : (t bs : List ℕ) (c : ℕ → ℕ) → Marks t c → InBlocks n bs → Unmet c bs → fresh t bs ≡ true
   unfolding fresh
   clear-fresh t [] c m w h = refl
   clear-fresh t (x ∷ bs) c m w h =
@@ -172,7 +173,7 @@ module _ (n : ℕ) (small : n ≤ 640) where
       rw (eq-eqb (getD t x 0) 0 (m x (omega (arith, w x p .1)) ∙ h x p))
       (clear-fresh t bs c m (λ y i. w y (omega (arith, times-tail y x bs))) (λ y i. h y (omega (arith, times-tail y x bs))))
 
-  marked-marks : (t bs : List ℕ) (c : ℕ → ℕ) → length t ≡ 642 → Marks t c → Within n bs → Once bs → Clear c bs
+  marked-marks : (t bs : List ℕ) (c : ℕ → ℕ) → length t ≡ 642 → Marks t c → InBlocks n bs → Once bs → Unmet c bs
       → Marks (marked t bs) (λ b. times b bs + c b)
   unfolding marked times
   marked-marks t [] c e m w d h b p = m b p ∙ omega arith
@@ -192,7 +193,7 @@ module _ (n : ℕ) (small : n ≤ 640) where
           ]
 
   module _ (e : ℕ → ℕ) (a : ℕ) where
-    within : (g : ForkFacts) → goodFork e n a g ≡ true → Within n (forkBlocks e a g)
+    within : (g : ForkFacts) → goodFork e n a g ≡ true → InBlocks n (forkBlocks e a g)
     within g h b p = fork-block e n a g b (good-fork e n a g h) p
 
     once : (g : ForkFacts) → goodFork e n a g ≡ true → Once (forkBlocks e a g)
@@ -238,7 +239,7 @@ module _ (n : ℕ) (small : n ≤ 640) where
         let r = and-true (goodFork e n a g) (every (goodFork e n a) gs) h in
         let w = within g (r .0) in
         let d = once g (r .0) in
-        let z : Clear c bs = λ b p. omega (arith, owned-more e a g gs b, k b (omega (arith, owned-more e a g gs b))) in
+        let z : Unmet c bs = λ b p. omega (arith, owned-more e a g gs b, k b (omega (arith, owned-more e a g gs b))) in
         rw (r .0, clear-fresh t bs c m w z)
         (claiming (marked t bs) (λ b. times b bs + c b) gs (length-marked t bs ∙ l) (marked-marks t bs c l m w d z) (r .1)
         (λ b p. omega (arith, owned-more e a g gs b, k b (omega (arith, owned-more e a g gs b)))))

@@ -7,7 +7,7 @@ use native.Mathlib.Decide.{ℕ-discrete}
 use lib.ListN.{length, getD, set, length-set}
 use lib.Seq.{getD-set-same, getD-set-other}
 use Rattle.model.specs.Map.{mapEntry, joined, entryByte}
-use Rattle.blockmap.specs.Decoded.{entryIn, Decoded}
+use Rattle.blockmap.specs.Decoded.{decodedEntry, Decoded}
 use Rattle.blockmap.proofs.Bits.{even-place, odd-place}
 
 -- b is even and at is the first of its pair's three bytes
@@ -28,12 +28,12 @@ module _ (image : List ℕ) (b at : ℕ) (low : 2 ≤ b) (even : b % 2 ≡ 0) (h
 
 -- the blocks below b are decoded
 abbrev pub Below : List ℕ → ℕ → List ℕ → Type 0
-Below image b xs = (i : ℕ) → 2 ≤ i → i < b → entryIn xs i ≡ mapEntry image i
+Below image b xs = (i : ℕ) → 2 ≤ i → i < b → decodedEntry xs i ≡ mapEntry image i
 
 -- two entries more
 pub below-more : (image : List ℕ) (b : ℕ) (xs : List ℕ) (v w : ℕ) → b + 1 < length xs → v ≡ mapEntry image b → w ≡ mapEntry image (b + 1)
     → Below image b xs → Below image (b + 2) (set (set xs b v) (b + 1) w)
-unfolding entryIn
+unfolding decodedEntry
 below-more image b xs v w room p q d i low high = go (ℕ-discrete i (b + 1)) (ℕ-discrete i b)
   where
     go : Dec (i ≡ b + 1) → Dec (i ≡ b) → getD (set (set xs b v) (b + 1) w) i 0 ≡ mapEntry image i

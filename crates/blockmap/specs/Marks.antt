@@ -1,4 +1,4 @@
--- Checks 8 to 10 as code does them: marks, one to a block, 1 for those that a fork has claimed so far.
+-- Checks 8 and 9 as code does them: marks, one to a block, 1 for those that a fork has claimed so far.
 -- e b is the entry of block b, n is N, a is A, t are the marks.
 use Prim.Native.Nat.{ℕ}
 use mathlib.Core.Bool.{Bool, true, _&&_}

@@ -5,7 +5,7 @@ ghost use Prim.Native.Nat.{_≤_};
 ghost use lib.ListN.{length};
 ghost use Rattle.model.specs.Map.{mapEntry, runs, chainBlocks};
 ghost use Rattle.model.specs.Directory.{forkBlocks};
-ghost use Rattle.blockmap.specs.Decoded.{entryIn};
+ghost use Rattle.blockmap.specs.Decoded.{decodedEntry};
 ghost use Rattle.blockmap.specs.Marks.{fresh, marked, claims};
 ghost use Rattle.blockmap.specs.Places.{HasPlace, IsPlace};
 use crate::packed::load;
@@ -18,8 +18,8 @@ use model::block_count;
 // Each call but the last marks a block that had no mark, so there are at most n + 1 of them, whatever k is.
 pub fn walk(entries: &[u16; 642], n: u16, s: u16, k: u16, marks: &mut [u8; 642]) -> bool
     requires { ⌜ n ≤ 640 ⌝ }
-    ensures answer { λ r. ⌜ r ≡ (runs (entryIn (now (entries .entry))) n k s && fresh (now (marks .entry)) (chainBlocks (entryIn (now (entries .entry))) k s)) ⌝ }
-    ensures after { λ r. ⌜ (r ≡ true → now (marks .exit) ≡ marked (now (marks .entry)) (chainBlocks (entryIn (now (entries .entry))) k s)) ⌝ }
+    ensures answer { λ r. ⌜ r ≡ (runs (decodedEntry (now (entries .entry))) n k s && fresh (now (marks .entry)) (chainBlocks (decodedEntry (now (entries .entry))) k s)) ⌝ }
+    ensures after { λ r. ⌜ (r ≡ true → now (marks .exit) ≡ marked (now (marks .entry)) (chainBlocks (decodedEntry (now (entries .entry))) k s)) ⌝ }
 {
     if k == 0 {
         return s == 1;
@@ -42,8 +42,8 @@ pub fn walk(entries: &[u16; 642], n: u16, s: u16, k: u16, marks: &mut [u8; 642])
 // Whether a fork is good, by check 8, and has no marked block. Where it is so, each of its blocks is marked.
 pub fn claim_fork(entries: &[u16; 642], n: u16, a: u32, g: ForkFacts, marks: &mut [u8; 642]) -> bool
     requires { ⌜ (n ≤ 640) × (512 ≤ a) ⌝ }
-    ensures answer { λ r. ⌜ r ≡ claims (entryIn (now (entries .entry))) n a (now (marks .entry)) g ⌝ }
-    ensures after { λ r. ⌜ (r ≡ true → now (marks .exit) ≡ marked (now (marks .entry)) (forkBlocks (entryIn (now (entries .entry))) a g)) ⌝ }
+    ensures answer { λ r. ⌜ r ≡ claims (decodedEntry (now (entries .entry))) n a (now (marks .entry)) g ⌝ }
+    ensures after { λ r. ⌜ (r ≡ true → now (marks .exit) ≡ marked (now (marks .entry)) (forkBlocks (decodedEntry (now (entries .entry))) a g)) ⌝ }
 {
     let start = g.start;
     let logical = g.logical;

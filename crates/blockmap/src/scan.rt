@@ -6,7 +6,7 @@ ghost use Prim.Native.Nat.{_≤_};
 ghost use lib.ListN.{length};
 ghost use Rattle.model.specs.Map.{sortOf, freeBlocks};
 ghost use Rattle.model.specs.Check.{fires5};
-ghost use Rattle.blockmap.specs.Decoded.{entryIn};
+ghost use Rattle.blockmap.specs.Decoded.{decodedEntry};
 ghost use Rattle.blockmap.specs.Marks.{unowned};
 use model::AllocationBlock;
 use model::MapValue;
@@ -34,7 +34,7 @@ pub fn sort_value(value: u16, n: u16) -> MapValue
 // Whether an entry is bad. All are looked at, so that the loop has no way out but its end.
 pub fn any_bad(entries: &[u16; 642], n: u16) -> bool
     requires { ⌜ n ≤ 640 ⌝ }
-    ensures { λ r. ⌜ r ≡ fires5 (entryIn (now (entries .entry))) n ⌝ }
+    ensures { λ r. ⌜ r ≡ fires5 (decodedEntry (now (entries .entry))) n ⌝ }
 {
     let end = n as usize + 2;
     let mut found = false;
@@ -64,7 +64,7 @@ fn is_lost(value: u16, mark: u8) -> bool
 // Whether a block with an entry above 0 has no mark.
 pub fn any_unowned(entries: &[u16; 642], n: u16, marks: &[u8; 642]) -> bool
     requires { ⌜ n ≤ 640 ⌝ }
-    ensures { λ r. ⌜ r ≡ unowned (entryIn (now (entries .entry))) n (now (marks .entry)) ⌝ }
+    ensures { λ r. ⌜ r ≡ unowned (decodedEntry (now (entries .entry))) n (now (marks .entry)) ⌝ }
 {
     let end = n as usize + 2;
     let mut found = false;
@@ -79,7 +79,7 @@ pub fn any_unowned(entries: &[u16; 642], n: u16, marks: &[u8; 642]) -> bool
 // How many entries are 0. In one loop with the marks neither would be done for several entries at once.
 pub fn free_count(entries: &[u16; 642], n: u16) -> u16
     requires { ⌜ n ≤ 640 ⌝ }
-    ensures { λ r. ⌜ r ≡ length (freeBlocks (entryIn (now (entries .entry))) n) ⌝ }
+    ensures { λ r. ⌜ r ≡ length (freeBlocks (decodedEntry (now (entries .entry))) n) ⌝ }
 {
     let end = n as usize + 2;
     let mut free: u16 = 0;

@@ -47,7 +47,7 @@ module _ {f : VolumeFacts} {image : List ℕ} (r : Readable f image) where
     abbrev first : Cursor
     first = record { base = 512 * dirStart f .0; at = 0; left = dirLength f - 1 }
 
-    first-begins : Begins (dirStart f .0) (dirLength f) first
+    first-begins : Begins (dirStart f) (dirLength f) first
     first-begins =
         let some = some-block r in
         record { base = refl; at = refl; left = omega arith; rest = λ i. sym (blocks-rest i (dirLength f) (512 * dirStart f .0) (λ z. omega arith)) }

@@ -37,7 +37,7 @@ module _ (image : List ℕ) (start left size : ℕ) (s : Space) (h : Roomy image
   pub room-none : s ≡ Nothing → any (hasRoom size) (cutBlocks (left + 1) (drop start image)) ≡ false
   room-none p = rw p at h
 
-module _ (f : VolumeFacts) (image : List ℕ) (c : Cursor) (b : Begins (dirStart f .0) (dirLength f) c) (title size : ℕ) (q : size ≡ padded (51 + title)) where
+module _ (f : VolumeFacts) (image : List ℕ) (c : Cursor) (b : Begins (dirStart f) (dirLength f) c) (title size : ℕ) (q : size ≡ padded (51 + title)) where
   pub adds : (base end : ℕ) → HasRoom image (c .base) (c .left) size base end → 1 ≤ title → title ≤ 255 → nextNumber f < 4294967295
       → Adds f image title base end
   adds base end h s m n = record {
@@ -116,7 +116,7 @@ module _ {f : VolumeFacts} {image : List ℕ} (r : Readable f image) (octets : B
           (λ z. omega arith)
 
       module _ (n : nextNumber f ≡ 4294967295 → ⊥) where
-        pub create-full : {c : Cursor} → Begins (dirStart f .0) (dirLength f) c → {size : ℕ} → size ≡ padded (51 + length name)
+        pub create-full : {c : Cursor} → Begins (dirStart f) (dirLength f) c → {size : ℕ} → size ≡ padded (51 + length name)
             → any (hasRoom size) (cutBlocks (c .left + 1) (drop (c .base) image)) ≡ false → Does (create name finder made changed) image (toldNumber 18) image
         unfolding refuses knownIn nameOf forkGiven lent
         create-full {c} b {size} q h =

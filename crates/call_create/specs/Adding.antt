@@ -1,9 +1,9 @@
--- What a file's entry is put in by.
+-- What create has decided when it puts a file's entry in, and the image that it leaves.
 use Prim.Native.Nat.{ℕ, _+_, _*_, _≤_, _<_}
 use mathlib.Core.Path.{_≡_}
 use mathlib.Core.List.{List}
 use Rattle.model.specs.Facts.{dirStart, dirLength, nextNumber}
-use Rattle.model.specs.Directory.{padded}
+use Rattle.model.specs.Directory.{sizeFor}
 use Rattle.model.specs.Calls.{newEntry, created}
 use Rattle.entries.specs.Rooms.{HasRoom}
 use Rattle.model.specs.declared.VolumeFacts.{VolumeFacts}
@@ -15,7 +15,7 @@ pub record Adds (f : VolumeFacts) (image : List ℕ) (title base end : ℕ) : Ty
   pub count : left + 1 ≡ dirLength f
   pub some : 1 ≤ title
   pub most : title ≤ 255
-  pub room : HasRoom image (512 * dirStart f .0) left (padded (51 + title)) base end
+  pub room : HasRoom image (512 * dirStart f .0) left (sizeFor title) base end
   pub next : nextNumber f < 4294967295
 
 -- the image with the entry of the new file and the counts after it

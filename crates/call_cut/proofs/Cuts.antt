@@ -20,10 +20,10 @@ pub cut-fits : (name : List ℕ) (fork : Fork) (size changed : ℕ) → Bytes na
 unfolding Fits
 cut-fits name fork size changed letters s d = (letters, s, d)
 
-pub cut-done : {f : VolumeFacts} {image name : List ℕ} {fork : Fork} {size : ℕ} {e : EntryAt} {g : ForkFacts}
+pub cut-served : {f : VolumeFacts} {image name : List ℕ} {fork : Fork} {size : ℕ} {e : EntryAt} {g : ForkFacts}
     → (r : Readable f image) → Bytes image → ChangeableFork image name fork size e g → {changed : ℕ} → Fits (cut name fork size changed)
     → {left : List ℕ} → Shortened f image e fork g size changed left → Does (cut name fork size changed) image (toldNumber 0) left
 unfolding change
-cut-done {f} {image} {name} {fork} {size} r octets h {changed} fits s =
+cut-served {f} {image} {name} {fork} {size} r octets h {changed} fits s =
     done r octets cut-changing fits (h .file) (not-beyond r h) refl
     (s (changed-fork-at r h .held) ∙ (λ i. shortened (r .facts i) image name fork size changed (changed-fork-is r h i)))

@@ -8,7 +8,7 @@ use native.Mathlib.Nat.{mul-le-mul-right}
 use lib.ListN.{length, take, drop, length-drop}
 use lib.Seq.{sets, length-take-le}
 use Rattle.model.specs.Lists.{any, firstOr0}
-use Rattle.model.specs.Bytes.{u16, u32}
+use Rattle.model.specs.Bytes.{bytes16, bytes32}
 use Rattle.model.specs.Facts.{factsOf, N, A, S, freeCount}
 use Rattle.model.specs.Map.{mapEntry, chainBlocks, putChain, putFree}
 use Rattle.model.specs.Directory.{directory, forkPlace, forkOf, blockCount, forkBlocks, named}
@@ -98,7 +98,7 @@ module _ {f : VolumeFacts} {image : List ℕ} {e : EntryAt} {fork : Fork} {g : F
     leaves : (changed start : ℕ) (x y z : List ℕ)
         → start ≡ firstOr0 (take (fewest size (A f)) (forkBlocks (mapEntry image) (A f) g)) → x ≡ afterCut (A f) image g size
         → y ≡ sets (sets x (e .start + forkPlace fork) (fields (record { start = record { 0 = start }; logical = size; physical = fewest size (A f) * A f })))
-        (e .start + 46) (u32 changed)
+        (e .start + 46) (bytes32 changed)
         → z ≡ withFree (freeCount f + (g .physical / A f - fewest size (A f))) y
         → Shortened f image e fork g size changed z
     unfolding shortened forkBlocks blockCount
@@ -109,15 +109,15 @@ module _ {f : VolumeFacts} {image : List ℕ} {e : EntryAt} {fork : Fork} {g : F
         let kept : keep ≡ length (take keep bs) = sym (length-take-le keep bs (omega (arith, keeps-within))) in
         let gone : g .physical / A f - keep ≡ length (drop keep bs) = omega (arith, length-drop keep bs) in
         let base = afterCut (A f) image g size in
-        let stores : y ≡ sets (sets base (e .start + forkPlace fork) (fields (forkWith (A f) size (take keep bs)))) (e .start + 46) (u32 changed) =
-        q ∙ (λ i. sets (sets (p i) (e .start + forkPlace fork) (u16 (s i) ++ (u32 size ++ u32 (kept i * A f)))) (e .start + 46) (u32 changed)) in
+        let stores : y ≡ sets (sets base (e .start + forkPlace fork) (fields (forkWith (A f) size (take keep bs)))) (e .start + 46) (bytes32 changed) =
+        q ∙ (λ i. sets (sets (p i) (e .start + forkPlace fork) (bytes16 (s i) ++ (bytes32 size ++ bytes32 (kept i * A f)))) (e .start + 46) (bytes32 changed)) in
         r ∙ (λ i. withFree (freeCount f + gone i) ((stores ∙ held-stored t base cut-based fork (A f) size (take keep bs) changed) i))
 
     pub cut-leaves : (changed has keep start : ℕ) (x y z : List ℕ) → has ≡ g .physical / A f → keep ≡ fewest size (A f)
         → start ≡ firstOr0 (take keep (chainBlocks (mapEntry image) has (g .start .0)))
         → x ≡ putFree (putChain image (take keep (chainBlocks (mapEntry image) has (g .start .0)))) (drop keep (chainBlocks (mapEntry image) has (g .start .0)))
         → y ≡ sets (sets x (e .start + forkPlace fork) (fields (record { start = record { 0 = start }; logical = size; physical = keep * A f })))
-        (e .start + 46) (u32 changed)
+        (e .start + 46) (bytes32 changed)
         → z ≡ withFree (freeCount f + (has - keep)) y
         → Shortened f image e fork g size changed z
     unfolding forkBlocks blockCount

@@ -19,11 +19,11 @@ pub delete-fits : (name : List ℕ) → Bytes name → Fits (delete name)
 unfolding Fits
 delete-fits name letters = letters
 
-pub delete-done : {f : VolumeFacts} {image : List ℕ} (r : Readable f image) → Bytes image → {name : List ℕ} → Fits (delete name)
+pub delete-served : {f : VolumeFacts} {image : List ℕ} (r : Readable f image) → Bytes image → {name : List ℕ} → Fits (delete name)
     → {place : ℕ} {e : EntryAt} → Changeable image name place e
     → {left : List ℕ} → Deleted f image e left → Does (delete name) image (toldNumber 0) left
 unfolding change
-delete-done {f} {image} r octets {name} fits {place} {e} h s =
+delete-served {f} {image} r octets {name} fits {place} {e} h s =
     done r octets delete-changing fits h refl refl
     (s (record { readable = r; name = name; place = place; found = h .found })
     ∙ (λ i. deleted (r .facts i) image name (named-bytes r (h .found) i)))

@@ -8,12 +8,12 @@ use native.Mathlib.Nat.{mul-le-mul-right, mul-le-mul-left}
 use lib.ListN.{length, take, length-append}
 use lib.Seq.{sets, length-take-le}
 use Rattle.model.specs.Lists.{any, firstOr0}
-use Rattle.model.specs.Bytes.{u16, u32}
+use Rattle.model.specs.Bytes.{bytes16, bytes32}
 use Rattle.model.specs.Facts.{factsOf, N, A, S, freeCount}
 use Rattle.model.specs.Map.{mapEntry, runs, chainBlocks, behind, freeBlocks, putChain}
 use Rattle.model.specs.Directory.{directory, directoryBlocks, named, forkPlace, forkOf, blockCount, forkBlocks}
 use Rattle.model.specs.Check.{Accepted}
-use Rattle.model.specs.Calls.{grown, needed, fewest}
+use Rattle.model.specs.Calls.{grown, needed, newBlocks, fewest}
 use Rattle.model.specs.Calls.{putContent, withFork, rewritten, withDirectory, withFree, written}
 use Rattle.model.proofs.Map.{length-chain}
 use Rattle.laws.proofs.Sound.{Each, each-right, Linked}
@@ -34,7 +34,6 @@ use Rattle.directory.specs.Cursor.{bytesAt, Stands}
 use Rattle.directory.specs.declared.EntryAt.{EntryAt}
 use Rattle.entries.proofs.Stored.{fields}
 use Rattle.forks.specs.Content.{Fillable}
-use Rattle.forks.specs.Growth.{newBlocks}
 use Rattle.files.specs.Lookup.{FileAt}
 use Rattle.files.proofs.Forks.{large-block, small-block, few-in-volume, free-blocks, named-fork, fork-copyable}
 use Rattle.files.proofs.Elsewhere.{held-stands, held-stored}
@@ -181,15 +180,15 @@ module _ {f : VolumeFacts} {image : List ℕ} {e : EntryAt} (h : FileAt f image 
       -- all that is stored is what the model says
       pub grown-written : (l after left : List ℕ) (t size count changed : ℕ) → l ≡ grownBase f image g need o xs → t ≡ firstOr0 (grownBlocks f image g need)
           → size ≡ max (g .logical) (o + length xs) → count ≡ g .physical / A f + need
-          → after ≡ sets (sets l (e .start + forkPlace fork) (u16 t ++ (u32 size ++ u32 (count * A f)))) (e .start + 46) (u32 changed)
+          → after ≡ sets (sets l (e .start + forkPlace fork) (bytes16 t ++ (bytes32 size ++ bytes32 (count * A f)))) (e .start + 46) (bytes32 changed)
           → left ≡ withFree (freeCount f - need) after
           → left ≡ written f image (h .name) fork o xs changed g
       unfolding written newBlocks forkBlocks blockCount grown
       grown-written l after left t size count changed p s z n a d =
           let all = grownBlocks f image g need in
           let base = grownBase f image g need o xs in
-          let b : sets (sets l (e .start + forkPlace fork) (u16 t ++ (u32 size ++ u32 (count * A f)))) (e .start + 46) (u32 changed)
-          ≡ sets (sets base (e .start + forkPlace fork) (fields (forkWith (A f) (max (g .logical) (o + length xs)) all))) (e .start + 46) (u32 changed)
+          let b : sets (sets l (e .start + forkPlace fork) (bytes16 t ++ (bytes32 size ++ bytes32 (count * A f)))) (e .start + 46) (bytes32 changed)
+          ≡ sets (sets base (e .start + forkPlace fork) (fields (forkWith (A f) (max (g .logical) (o + length xs)) all))) (e .start + 46) (bytes32 changed)
           = rw (p, s, z, n, length-grown) in
           let full = (a ∙ b) ∙ held-stored h base based-grown fork (A f) (max (g .logical) (o + length xs)) all changed in
           d ∙ ap (withFree (freeCount f - need)) full

@@ -4,14 +4,14 @@ use mathlib.Core.Path.{_≡_, sym, _∙_}
 use mathlib.Core.List.{List}
 use lib.ListN.{length}
 use Rattle.model.specs.Bytes.{Bytes}
-use Rattle.model.specs.Calls.{Does, Fits, written, change}
+use Rattle.model.specs.Calls.{Does, Fits, newBlocks, written, change}
 use Rattle.model.specs.Calls.Call.{write}
 use Rattle.model.specs.declared.VolumeFacts.{VolumeFacts}
 use Rattle.model.specs.declared.Fork.{Fork}
 use Rattle.model.specs.declared.ForkFacts.{ForkFacts}
 use Rattle.directory.specs.declared.EntryAt.{EntryAt}
 use Rattle.forks.specs.declared.NewBlocks.{NewBlocks}
-use Rattle.forks.specs.Growth.{newBlocks, Grows}
+use Rattle.forks.specs.Growth.{Grows}
 use Rattle.files.specs.Told.{toldNumber}
 use Rattle.files.specs.Leaves.{Written}
 use Rattle.files.specs.Lookup.{Readable, ChangeableFork}

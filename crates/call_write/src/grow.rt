@@ -3,7 +3,7 @@ ghost use mathlib.Core.Path.{_≡_};
 ghost use Prim.Native.Nat.{_≤_};
 ghost use lib.ListN.{length};
 ghost use Rattle.model.specs.Facts.{freeCount};
-ghost use Rattle.forks.specs.Growth.{newBlocks};
+ghost use Rattle.model.specs.Calls.{newBlocks};
 ghost use Rattle.files.specs.Leaves.{Written};
 ghost use Rattle.files.specs.Lookup.{ForkAt};
 use directory::EntryAt;

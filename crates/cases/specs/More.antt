@@ -4,7 +4,7 @@ use mathlib.Core.Path.{_≡_}
 use mathlib.Core.Bool.{Bool, true, false}
 use mathlib.Core.List.{List, [], _∷_, _++_}
 use lib.ListN.{replicate}
-use Rattle.model.specs.Bytes.{u16, u32, zeros}
+use Rattle.model.specs.Bytes.{bytes16, bytes32, zeros}
 use Rattle.model.specs.Facts.{factsIn}
 use Rattle.model.specs.Check.{fires1, fires3}
 use Rattle.model.specs.Calls.{only, tellsFacts, tellsEntry, tellsBlock}
@@ -24,14 +24,14 @@ badVolumes =
     ∷ bad 1 (zeros 4097)
     ∷ bad 2 (zeros 4096)
     ∷ bad 2 (withBytes 1025 (0xd6 ∷ []) hall)
-    ∷ bad 3 (withBytes 1044 (u32 513) hall)
-    ∷ bad 3 (withBytes 1044 (u32 0) hall)
-    ∷ bad 3 (withBytes 1042 (u16 0) hall)
-    ∷ bad 3 (withBytes 1042 (u16 6) hall)
-    ∷ bad 3 (withBytes 1038 (u16 3) hall)
-    ∷ bad 3 (withBytes 1040 (u16 0) hall)
-    ∷ bad 3 (withBytes 1040 (u16 2) hall)
-    ∷ bad 3 (withBytes 1054 (u32 0) hall)
+    ∷ bad 3 (withBytes 1044 (bytes32 513) hall)
+    ∷ bad 3 (withBytes 1044 (bytes32 0) hall)
+    ∷ bad 3 (withBytes 1042 (bytes16 0) hall)
+    ∷ bad 3 (withBytes 1042 (bytes16 6) hall)
+    ∷ bad 3 (withBytes 1038 (bytes16 3) hall)
+    ∷ bad 3 (withBytes 1040 (bytes16 0) hall)
+    ∷ bad 3 (withBytes 1040 (bytes16 2) hall)
+    ∷ bad 3 (withBytes 1054 (bytes32 0) hall)
     ∷ bad 4 (withBytes 1060 (28 ∷ []) hall)
     -- 5: the entry of block 5 is 7, N + 1 being 6
     ∷ bad 5 (withBytes 1093 (0x07 ∷ []) hall)
@@ -40,21 +40,21 @@ badVolumes =
     ∷ bad 6 (withBytes 2154 (0 ∷ []) hall)
     ∷ bad 6 (longDisk 157)
     -- 7: another count, a number that is 0, repeated or not below the next
-    ∷ bad 7 (withBytes 1036 (u16 3) hall)
-    ∷ bad 7 (withBytes 2122 (u32 0) hall)
-    ∷ bad 7 (withBytes 2122 (u32 1) hall)
-    ∷ bad 7 (withBytes 2122 (u32 3) hall)
+    ∷ bad 7 (withBytes 1036 (bytes16 3) hall)
+    ∷ bad 7 (withBytes 2122 (bytes32 0) hall)
+    ∷ bad 7 (withBytes 2122 (bytes32 1) hall)
+    ∷ bad 7 (withBytes 2122 (bytes32 3) hall)
     -- 8: start 0 and both lengths, or the logical, or the physical alone
-    ∷ bad 8 (withBytes 2070 (u16 0) hall)
+    ∷ bad 8 (withBytes 2070 (bytes16 0) hall)
     ∷ bad 8 (withBytes 2080 (forkBytesOf 0 1 0) hall)
     ∷ bad 8 (withBytes 2080 (forkBytesOf 0 0 512) hall)
     -- 8: physical length 0; start 1; above N + 1; no multiple of A; logical above physical; a chain too short or too long
     ∷ bad 8 (withBytes 2080 (forkBytesOf 1 0 0) hall)
-    ∷ bad 8 (withBytes 2070 (u16 1) hall)
-    ∷ bad 8 (withBytes 2070 (u16 7) hall)
-    ∷ bad 8 (withBytes 2076 (u32 1025) hall)
-    ∷ bad 8 (withBytes 2072 (u32 1025) hall)
-    ∷ bad 8 (withBytes 2076 (u32 1536) hall)
+    ∷ bad 8 (withBytes 2070 (bytes16 1) hall)
+    ∷ bad 8 (withBytes 2070 (bytes16 7) hall)
+    ∷ bad 8 (withBytes 2076 (bytes32 1025) hall)
+    ∷ bad 8 (withBytes 2072 (bytes32 1025) hall)
+    ∷ bad 8 (withBytes 2076 (bytes32 1536) hall)
     ∷ bad 8 (withBytes 2070 (forkBytesOf 2 500 512) hall)
     ∷ []
 
@@ -85,20 +85,20 @@ unfoldable pub creations : List Row
 creations =
     -- behind the last entry, into an earlier block that has room, also to its last byte, into the next where it has not
     does hall (create NEWS (sample 0 16) 7 8) (only 0 [])
-    (withBytes 1036 (u16 3) (withBytes 1054 (u32 4) (withBytes 2162 (sample 0 16)
+    (withBytes 1036 (bytes16 3) (withBytes 1054 (bytes32 4) (withBytes 2162 (sample 0 16)
     (withBytes 2160 (newsEntry 3 0) hall))))
     ∷ does twoBlocks (create NEWS (zeros 16) 7 8) (only 0 [])
-    (withBytes 1036 (u16 3) (withBytes 1054 (u32 4) (withBytes 2354 (newsEntry 3 0) twoBlocks)))
+    (withBytes 1036 (bytes16 3) (withBytes 1054 (bytes32 4) (withBytes 2354 (newsEntry 3 0) twoBlocks)))
     ∷ does twoBlocks (create (longName 67 155) (zeros 16) 7 8) (only 0 [])
-    (withBytes 1036 (u16 3) (withBytes 1054 (u32 4)
+    (withBytes 1036 (bytes16 3) (withBytes 1054 (bytes32 4)
     (withBytes 2354 (entryBytes 0x80 3 (zeros 10) (zeros 10) 7 8 (longName 67 155) []) twoBlocks)))
     ∷ does twoBlocks (create (longName 67 157) (zeros 16) 7 8) (only 0 [])
-    (withBytes 1036 (u16 3) (withBytes 1054 (u32 4)
+    (withBytes 1036 (bytes16 3) (withBytes 1054 (bytes32 4)
     (withBytes 2616 (entryBytes 0x80 3 (zeros 10) (zeros 10) 7 8 (longName 67 157) []) twoBlocks)))
     -- a directory block that is full
     ∷ does (longDisk 155) (find (longName 97 255)) (tellsEntry 0 (longFacts 255)) (longDisk 155)
     ∷ refused 18 (create NEWS (zeros 16) 7 8) (longDisk 155)
-    ∷ refused 19 (create NEWS (zeros 16) 7 8) (withBytes 1054 (u32 4294967295) (longDisk 155))
+    ∷ refused 19 (create NEWS (zeros 16) 7 8) (withBytes 1054 (bytes32 4294967295) (longDisk 155))
     ∷ []
 
 -- write, cut and delete
@@ -106,25 +106,25 @@ unfoldable pub changings : List Row
 changings =
     -- write to an empty fork, and where the fork has blocks to spare
     does hall (write RATES Resource 0 (sample 0 3) 9) (only 0 [])
-    (withBytes 1058 (u16 1) (withBytes 1093 (0x01 ∷ []) (withBytes 2136 (forkBytesOf 5 3 512) (withBytes 2150 (u32 9)
+    (withBytes 1058 (bytes16 1) (withBytes 1093 (0x01 ∷ []) (withBytes 2136 (forkBytesOf 5 3 512) (withBytes 2150 (bytes32 9)
     (withBytes 4096 (sample 0 3) hall)))))
     ∷ does roomyDisk (write WEEK1 Data 100 (sample 0 924) 9) (only 0 [])
     (withWeek1 2 1024 1024 9 (withBytes 2660 (sample 0 412) (withBytes 3584 (sample 412 512) roomyDisk)))
-    ∷ does roomyDisk (write WEEK1 Data 0 [] 9) (only 0 []) (withBytes 2094 (u32 9) roomyDisk)
-    ∷ does hall (write RATES Resource 0 [] 9) (only 0 []) (withBytes 2150 (u32 9) hall)
+    ∷ does roomyDisk (write WEEK1 Data 0 [] 9) (only 0 []) (withBytes 2094 (bytes32 9) roomyDisk)
+    ∷ does hall (write RATES Resource 0 [] 9) (only 0 []) (withBytes 2150 (bytes32 9) hall)
     -- cut: to nothing, and where the fork has blocks to spare
     ∷ does hall (cut WEEK1 Data 0 9) (only 0 [])
-    (withBytes 1058 (u16 4) (withBytes 1088 (0x00 ∷ 0x00 ∷ 0x01 ∷ 0x00 ∷ 0x00 ∷ []) (withWeek1 0 0 0 9 hall)))
+    (withBytes 1058 (bytes16 4) (withBytes 1088 (0x00 ∷ 0x00 ∷ 0x01 ∷ 0x00 ∷ 0x00 ∷ []) (withWeek1 0 0 0 9 hall)))
     ∷ does roomyDisk (cut WEEK1 Data 100 9) (only 0 [])
-    (withBytes 1058 (u16 3) (withBytes 1088 (0x00 ∷ 0x10 ∷ 0x01 ∷ 0x00 ∷ 0x00 ∷ []) (withWeek1 2 100 512 9 roomyDisk)))
+    (withBytes 1058 (bytes16 3) (withBytes 1088 (0x00 ∷ 0x10 ∷ 0x01 ∷ 0x00 ∷ 0x00 ∷ []) (withWeek1 2 100 512 9 roomyDisk)))
     ∷ refused 16 (cut WEEK1 Data 701 9) hall
     -- delete of an entry before another, and over bytes behind the reading
     ∷ does staleDisk (delete week1) (only 0 [])
-    (withBytes 1036 (u16 1) (withBytes 1058 (u16 4) (withBytes 1088 (0x00 ∷ 0x00 ∷ 0x01 ∷ 0x00 ∷ 0x00 ∷ [])
+    (withBytes 1036 (bytes16 1) (withBytes 1058 (bytes16 4) (withBytes 1088 (0x00 ∷ 0x00 ∷ 0x01 ∷ 0x00 ∷ 0x00 ∷ [])
     (withBytes 2048 (ratesEntry ++ zeros 456) staleDisk))))
     -- 11 by either bit, 15
-    ∷ refused 11 (delete WEEK1) (withBytes 1034 (u16 0x0080) hall)
-    ∷ refused 11 (write [] Data 0 [] 9) (withBytes 1034 (u16 0x8000) hall)
+    ∷ refused 11 (delete WEEK1) (withBytes 1034 (bytes16 0x0080) hall)
+    ∷ refused 11 (write [] Data 0 [] 9) (withBytes 1034 (bytes16 0x8000) hall)
     ∷ refused 15 (cut WEEK1 Data 0 9) (withBytes 2048 (0x81 ∷ []) hall)
     ∷ refused 15 (delete WEEK1) (withBytes 2048 (0x81 ∷ []) hall)
     ∷ refused 13 (delete NEWS) hall
@@ -134,15 +134,15 @@ changings =
 unfoldable pub orders : List Row
 orders =
     -- 3 before 4 .. 7 before 8, 9 before 10
-    bad 3 (withBytes 1042 (u16 0) (withBytes 1060 (28 ∷ []) hall))
+    bad 3 (withBytes 1042 (bytes16 0) (withBytes 1060 (28 ∷ []) hall))
     ∷ bad 4 (withBytes 1060 (28 ∷ []) (withBytes 1093 (0x07 ∷ []) hall))
     ∷ bad 5 (withBytes 1093 (0x07 ∷ []) (withBytes 2049 (1 ∷ []) hall))
-    ∷ bad 6 (withBytes 2049 (1 ∷ []) (withBytes 1036 (u16 3) hall))
-    ∷ bad 7 (withBytes 1036 (u16 3) (withBytes 2070 (u16 1) hall))
+    ∷ bad 6 (withBytes 2049 (1 ∷ []) (withBytes 1036 (bytes16 3) hall))
+    ∷ bad 7 (withBytes 1036 (bytes16 3) (withBytes 2070 (bytes16 1) hall))
     ∷ bad 9 (withBytes 1093 (0x01 ∷ []) hall)
     -- create 11 before 12, 14 before 19; write 15 before 16, 16 before 17
-    ∷ refused 11 (create [] (zeros 16) 7 8) (withBytes 1034 (u16 0x0080) hall)
-    ∷ refused 14 (create week1 (zeros 16) 7 8) (withBytes 1054 (u32 4294967295) hall)
+    ∷ refused 11 (create [] (zeros 16) 7 8) (withBytes 1034 (bytes16 0x0080) hall)
+    ∷ refused 14 (create week1 (zeros 16) 7 8) (withBytes 1054 (bytes32 4294967295) hall)
     ∷ refused 15 (write WEEK1 Data 701 [] 9) (withBytes 2048 (0x81 ∷ []) hall)
     ∷ refused 16 (write WEEK1 Data 701 (sample 0 1349) 9) hall
     ∷ []
@@ -174,15 +174,15 @@ unfoldable pub contents : List Row
 contents =
     -- write keeps the fork's bytes before and behind, and those of a new block beyond the written ones
     does (sampled hall) (write WEEK1 Data 100 (zeros 3) 9) (only 0 [])
-    (withBytes 2094 (u32 9) (withBytes 2660 (zeros 3) (sampled hall)))
+    (withBytes 2094 (bytes32 9) (withBytes 2660 (zeros 3) (sampled hall)))
     ∷ does (sampled hall) (write WEEK1 Data 700 (zeros 400) 9) (only 0 [])
-    (withBytes 1058 (u16 1) (withBytes 1088 (0x00 ∷ 0x40 ∷ 0x01 ∷ 0x00 ∷ 0x50 ∷ 0x01 ∷ [])
+    (withBytes 1058 (bytes16 1) (withBytes 1088 (0x00 ∷ 0x40 ∷ 0x01 ∷ 0x00 ∷ 0x50 ∷ 0x01 ∷ [])
     (withWeek1 2 1100 1536 9 (withBytes 3772 (zeros 324) (withBytes 4096 (zeros 76) (sampled hall))))))
     -- cut and delete keep the bytes of the blocks that become free
     ∷ does (sampled hall) (cut WEEK1 Data 100 9) (only 0 [])
-    (withBytes 1058 (u16 3) (withBytes 1088 (0x00 ∷ 0x10 ∷ 0x01 ∷ 0x00 ∷ 0x00 ∷ []) (withWeek1 2 100 512 9 (sampled hall))))
+    (withBytes 1058 (bytes16 3) (withBytes 1088 (0x00 ∷ 0x10 ∷ 0x01 ∷ 0x00 ∷ 0x00 ∷ []) (withWeek1 2 100 512 9 (sampled hall))))
     ∷ does (sampled resourceDisk) (delete RATES) (only 0 [])
-    (withBytes 1036 (u16 1) (withBytes 1058 (u16 3) (withBytes 1088 (0x00 ∷ 0x40 ∷ 0x00 ∷ 0x00 ∷ 0x10 ∷ 0x00 ∷ [])
+    (withBytes 1036 (bytes16 1) (withBytes 1058 (bytes16 3) (withBytes 1088 (0x00 ∷ 0x40 ∷ 0x00 ∷ 0x00 ∷ 0x10 ∷ 0x00 ∷ [])
     (withBytes 2104 (zeros 456) (sampled resourceDisk)))))
     ∷ []
 
@@ -190,7 +190,7 @@ contents =
 unfoldable pub wideDisk : List ℕ
 wideDisk =
     sampled
-    (withBytes 1042 (u16 2 ++ u32 1024)
+    (withBytes 1042 (bytes16 2 ++ bytes32 1024)
     (disk
     (record {
       attributes = 0;
@@ -205,7 +205,7 @@ wideDisk =
 -- the same with 100 bytes more, the last 76 in block 2
 unfoldable pub wideGrown : List ℕ
 wideGrown =
-    withBytes 1058 (u16 0) (withBytes 1088 (0x00 ∷ 0x10 ∷ 0x02 ∷ [])
+    withBytes 1058 (bytes16 0) (withBytes 1088 (0x00 ∷ 0x10 ∷ 0x02 ∷ [])
     (withWeek1 3 1100 2048 9 (withBytes 4584 (sample 7 24) (withBytes 2560 (sample 31 76) wideDisk))))
 
 -- A = 1,024: a fork over two blocks
@@ -215,7 +215,7 @@ wideForks =
     ∷ does wideGrown (block WEEK1 Data 1) (tellsBlock 2) wideGrown
     ∷ does wideGrown (read WEEK1 Data 990 (zeros 120)) (tellsRead 110 (sample 2014 10 ++ (sample 7 100 ++ zeros 10))) wideGrown
     ∷ does wideGrown (cut WEEK1 Data 1024 9) (only 0 [])
-    (withBytes 1058 (u16 1) (withBytes 1088 (0x00 ∷ 0x00 ∷ 0x01 ∷ []) (withWeek1 3 1024 1024 9 wideGrown)))
+    (withBytes 1058 (bytes16 1) (withBytes 1088 (0x00 ∷ 0x00 ∷ 0x01 ∷ []) (withWeek1 3 1024 1024 9 wideGrown)))
     ∷ []
 
 -- check 3 on an image of 65,535 blocks with these N, A and directory length
@@ -223,7 +223,7 @@ unfoldable pub limited : ℕ → ℕ → ℕ → Bool
 limited n a dirLength =
     fires3
     (factsIn
-    (withBytes 18 (u16 n ++ u32 a)
+    (withBytes 18 (bytes16 n ++ bytes32 a)
     (info (record { attributes = 0; files = 0; dirLength = dirLength; next = 1; free = 0; map = []; directory = [] }))))
     65535
 

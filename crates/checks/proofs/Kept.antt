@@ -18,7 +18,7 @@ use Rattle.checks.specs.declared.table.Slot.the-variants.{Free, Equal}
 use Rattle.checks.specs.declared.table.Compared.{Compared}
 use Rattle.checks.specs.declared.table.Compared.the-variants.{Differ, Repeated}
 use Rattle.checks.specs.Same.{sameBy}
-use Rattle.checks.specs.Table.{homeBy, entryFrom, Occupied, occupant, Clear, Filled, Passed, FreeAt, Met, Probed, Compares}
+use Rattle.checks.specs.Table.{homeBy, entryFrom, Occupied, occupant, AllFree, Filled, Passed, FreeAt, Met, Probed, Compares}
 use Rattle.checks.proofs.Distinct.{Each, none, each-map, each-snoc, each-fails, any-last, any-before, distinct-not, distinct-more}
 use Rattle.checks.proofs.Homes.{same-home}
 
@@ -76,7 +76,7 @@ pub record Kept (field : Field) (image : List ℕ) (all left : List (List ℕ)) 
 
 module _ {field : Field} {image : List ℕ} {all : List (List ℕ)} {table : List ℕ} where
   -- at first
-  pub kept-none : Clear table → Kept field image all all table
+  pub kept-none : AllFree table → Kept field image all all table
   unfolding distinct
   kept-none c = record {
     done = [];

@@ -121,7 +121,7 @@ directory-passes files next es m d y = else-zero (fires6 es) 5 _ (sym d ∙ y) .
 
 -- ---- the cursor over the directory
 
-module _ (f : VolumeFacts) (image : List ℕ) (e : f ≡ factsOf image) (c : Cursor) (b : Begins (dirStart f .0) (dirLength f) c) where
+module _ (f : VolumeFacts) (image : List ℕ) (e : f ≡ factsOf image) (c : Cursor) (b : Begins (dirStart f) (dirLength f) c) where
   pub rest-directory : restOf image c ≡ directory image
   rest-directory = begins-directory image c (rw e at b)
 

@@ -6,7 +6,7 @@ use Rattle.model.specs.Check.{sameNumbers, sameNames}
 use Rattle.checks.specs.declared.Field.{Field}
 use Rattle.checks.specs.declared.Field.the-variants.{Number, Name}
 
--- the two entries have the same file number, or equal names
+-- the two entries are the same in this field
 abbrev pub sameBy : Field → List ℕ → List ℕ → Bool
 sameBy Number d e = sameNumbers d e
 sameBy Name d e = sameNames d e

@@ -43,7 +43,7 @@ abbrev pub occupant : List ℕ → List ℕ → ℕ → List ℕ
 occupant image table i = bytesAt image (entryFrom image (getD table i 0 - 1))
 
 -- every slot is free
-pub record Clear (table : List ℕ) : Type 0 where
+pub record AllFree (table : List ℕ) : Type 0 where
   pub long : length table ≡ 6400
   pub free : (i : ℕ) → getD table i 0 ≡ 0
 

@@ -25,6 +25,7 @@ pub fn all_differ(image: &[u8], from: Cursor, count: usize) -> bool
         Compared::Differ => match compare_by(image, from, Field::Name) {
             Compared::Differ => true,
             Compared::Repeated => false,
+            // No volume has so many entries that the table has no slot for one.
             Compared::Unknown => pairs_differ(image, from),
         },
         Compared::Repeated => false,

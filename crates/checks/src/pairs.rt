@@ -12,7 +12,7 @@ use directory::EntryAt;
 use directory::number_of;
 use directory::same_name;
 
-// Whether two entries have the same file number, or equal names.
+// Whether two entries are the same in this field: the same file number, or equal names.
 pub fn same(image: &[u8], d: EntryAt, e: EntryAt, field: Field) -> bool
     requires { ⌜ Stands (now image) d ⌝ }
     requires { ⌜ Stands (now image) e ⌝ }

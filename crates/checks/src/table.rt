@@ -5,7 +5,7 @@ ghost use mathlib.Core.Path.{_≡_};
 ghost use Prim.Native.Nat.{_-_, _≤_};
 ghost use Rattle.model.specs.Directory.{folded};
 ghost use Rattle.directory.specs.Cursor.{restOf, bytesAt, Stands, Passes};
-ghost use Rattle.checks.specs.Table.{hashed, spreadOf, homeBy, entryFrom, Clear, Filled, Probed, Compares};
+ghost use Rattle.checks.specs.Table.{hashed, spreadOf, homeBy, entryFrom, AllFree, Filled, Probed, Compares};
 use crate::Field;
 use crate::pairs::same;
 use directory::Advance;
@@ -114,7 +114,7 @@ fn probe(image: &[u8], table: &[u32; SLOTS], e: EntryAt, field: Field) -> Slot
 // Whether the entries differ. Each is put into the table as its start and 1, since 0 is a free slot.
 fn insert_all(image: &[u8], from: Cursor, field: Field, table: &mut [u32; SLOTS]) -> Compared
     requires { ⌜ Passes (now image) from ⌝ }
-    requires { ⌜ Clear (now table) ⌝ }
+    requires { ⌜ AllFree (now table) ⌝ }
     ensures { λ r. ⌜ Compares field (restOf (now (image .entry)) from) r ⌝ }
 {
     let mut c = from;
@@ -141,7 +141,7 @@ fn insert_all(image: &[u8], from: Cursor, field: Field, table: &mut [u32; SLOTS]
 
 // A table with every slot free.
 fn empty() -> [u32; SLOTS]
-    ensures { λ r. ⌜ Clear r ⌝ }
+    ensures { λ r. ⌜ AllFree r ⌝ }
 {
     [0; SLOTS]
 }

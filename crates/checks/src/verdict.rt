@@ -5,7 +5,7 @@ ghost use Prim.Native.Nat.{_≤_};
 ghost use Rattle.model.specs.Check.{from2, from8};
 ghost use Rattle.model.specs.Directory.{forksIn};
 ghost use Rattle.model.specs.Map.{mapEntry};
-ghost use Rattle.blockmap.specs.Decoded.{entryIn, Decoded};
+ghost use Rattle.blockmap.specs.Decoded.{decodedEntry, Decoded};
 ghost use Rattle.directory.specs.Cursor.{restOf, CursorFits, Passes};
 ghost use Rattle.checks.specs.Numbers.{directoryNumber, Claims, Judged, Mapped};
 use crate::limits::facts_number;
@@ -46,7 +46,7 @@ fn claim_all(
 ) -> bool
     requires { ⌜ (n ≤ 640) × (512 ≤ a) ⌝ }
     requires { ⌜ Passes (now image) from ⌝ }
-    ensures { λ r. ⌜ Claims (entryIn (now (entries .entry))) n a (now (marks .entry)) (forksIn (restOf (now (image .entry)) from)) r (now (marks .exit)) ⌝ }
+    ensures { λ r. ⌜ Claims (decodedEntry (now (entries .entry))) n a (now (marks .entry)) (forksIn (restOf (now (image .entry)) from)) r (now (marks .exit)) ⌝ }
 {
     let mut c = from;
     loop {

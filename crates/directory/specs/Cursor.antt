@@ -6,8 +6,9 @@ use mathlib.Core.List.{List, [], _∷_, _++_}
 use lib.ListN.{length, drop}
 use Rattle.model.specs.Lists.{flat}
 use Rattle.model.specs.Bytes.{byte, part}
-use Rattle.model.specs.Directory.{padded, readAt, entries, cutBlocks, listing}
+use Rattle.model.specs.Directory.{sizeFor, readAt, entries, cutBlocks, listing}
 use Rattle.model.specs.Check.{goodEntry, fires6}
+use Rattle.model.specs.declared.LogicalBlock.{LogicalBlock}
 use Rattle.directory.specs.declared.Cursor.{Cursor}
 use Rattle.directory.specs.declared.EntryAt.{EntryAt}
 use Rattle.directory.specs.declared.Step.{Step}
@@ -38,15 +39,15 @@ abbrev pub ahead : Cursor → ℕ
 ahead c = 512 * (c .left + 1) - c .at
 
 -- a cursor at the first entry of the directory that starts at that logical block and has so many blocks
-pub record Begins (start blocks : ℕ) (c : Cursor) : Type 0 where
-  pub base : c .base ≡ 512 * start
+pub record Begins (start : LogicalBlock) (blocks : ℕ) (c : Cursor) : Type 0 where
+  pub base : c .base ≡ 512 * start .0
   pub at : c .at ≡ 0
   pub left : c .left + 1 ≡ blocks
-  pub rest : (image : List ℕ) → restOf image c ≡ listing (cutBlocks blocks (drop (512 * start) image))
+  pub rest : (image : List ℕ) → restOf image c ≡ listing (cutBlocks blocks (drop (512 * start .0) image))
 
 -- the entry's bytes
 abbrev pub bytesAt : List ℕ → EntryAt → List ℕ
-bytesAt image e = part (e .start) (padded (51 + e .«name_length»)) image
+bytesAt image e = part (e .start) (sizeFor (e .«name_length»)) image
 
 -- the entry and its name are within the image, and the name's length is as its byte says
 pub record Stands (image : List ℕ) (e : EntryAt) : Type 0 where

@@ -1,13 +1,13 @@
 // Where the fields of a directory entry stand, and the size that it takes.
 ghost use mathlib.Core.Path.{_≡_};
 ghost use Prim.Native.Nat.{_+_, _≤_};
-ghost use Rattle.model.specs.Directory.{padded};
+ghost use Rattle.model.specs.Directory.{sizeFor};
 use crate::EntryAt;
 
 // An entry is 51 bytes and its name, here of n bytes, plus one byte to make the size even.
 pub fn entry_size(n: usize) -> usize
     requires { ⌜ n ≤ 255 ⌝ }
-    ensures { λ r. ⌜ r ≡ padded (51 + n) ⌝ }
+    ensures { λ r. ⌜ r ≡ sizeFor n ⌝ }
 {
     let size = EntryAt::NAME_AT + n;
     size + size % 2

@@ -21,7 +21,7 @@ impl Cursor {
     // At the first entry of the directory that starts there and has so many blocks.
     pub fn new(start: LogicalBlock, length: u16) -> Cursor
         requires { ⌜ 1 ≤ length ⌝ }
-        ensures { λ r. ⌜ Begins (start .0) length r ⌝ }
+        ensures { λ r. ⌜ Begins start length r ⌝ }
     {
         let base = start.byte();
         let left = length as usize - 1;

@@ -6,7 +6,7 @@ use native.Mathlib.Omega.{arith}
 use native.Mathlib.Nat.{add-zero, suc-add, zero-add}
 use lib.ListN.{length, set, length-append, length-replicate}
 use lib.Seq.{sets, sets-eq, paste, length-paste, take-length}
-use Rattle.model.specs.Bytes.{u16, u32, zeros, part}
+use Rattle.model.specs.Bytes.{bytes16, bytes32, zeros, part}
 use Rattle.model.specs.Directory.{padded, entries, readEnd}
 use Rattle.model.specs.Calls.{newEntry, filled}
 use Rattle.laws.proofs.Entry.{new-length}
@@ -68,7 +68,7 @@ zeros-split x a p q h =
 
 module _ (number : ℕ) (name finder : List ℕ) (created changed : ℕ) (whole : length finder ≡ 16) where
   abbrev body : List ℕ
-  body = ((((((u16 0x8000 ++ finder) ++ u32 number) ++ zeros 20) ++ u32 created) ++ u32 changed) ++ (length name ∷ [])) ++ name
+  body = ((((((bytes16 0x8000 ++ finder) ++ bytes32 number) ++ zeros 20) ++ bytes32 created) ++ bytes32 changed) ++ (length name ∷ [])) ++ name
 
   abbrev pad : ℕ
   pad = (51 + length name) % 2
@@ -77,26 +77,26 @@ module _ (number : ℕ) (name finder : List ℕ) (created changed : ℕ) (whole 
   unfolding newEntry
   new-body = simp append-assoc
 
-  body-laid : (m : List ℕ) (s : ℕ) → s + (51 + length name) ≤ length m → (a b c d e f g h : List ℕ) → a ≡ sets m (s + 0) (u16 0x8000)
-      → b ≡ paste a (s + 2) finder 16 → c ≡ sets b (s + 18) (u32 number) → d ≡ paste c (s + 22) (zeros 20) 20 → e ≡ sets d (s + 42) (u32 created)
-      → f ≡ sets e (s + 46) (u32 changed) → g ≡ set f (s + 50) (length name) → h ≡ paste g (s + 51) name (length name)
+  body-laid : (m : List ℕ) (s : ℕ) → s + (51 + length name) ≤ length m → (a b c d e f g h : List ℕ) → a ≡ sets m (s + 0) (bytes16 0x8000)
+      → b ≡ paste a (s + 2) finder 16 → c ≡ sets b (s + 18) (bytes32 number) → d ≡ paste c (s + 22) (zeros 20) 20 → e ≡ sets d (s + 42) (bytes32 created)
+      → f ≡ sets e (s + 46) (bytes32 changed) → g ≡ set f (s + 50) (length name) → h ≡ paste g (s + 51) name (length name)
       → Laid m s body (51 + length name) h
   body-laid m s w a b c d e f g h pa pb pc pd pe pf pg ph =
-      let la = first-part m s (u16 0x8000) 2 refl (omega arith) a pa in
+      let la = first-part m s (bytes16 0x8000) 2 refl (omega arith) a pa in
       let lb = next-part m s _ 2 a la finder 16 whole (omega arith) b pb in
-      let lc = next-sets m s _ 18 b lb (u32 number) 4 refl (omega arith) c pc in
+      let lc = next-sets m s _ 18 b lb (bytes32 number) 4 refl (omega arith) c pc in
       let ld = next-part m s _ 22 c lc (zeros 20) 20 refl (omega arith) d pd in
-      let le = next-sets m s _ 42 d ld (u32 created) 4 refl (omega arith) e pe in
-      let lf = next-sets m s _ 46 e le (u32 changed) 4 refl (omega arith) f pf in
+      let le = next-sets m s _ 42 d ld (bytes32 created) 4 refl (omega arith) e pe in
+      let lf = next-sets m s _ 46 e le (bytes32 changed) 4 refl (omega arith) f pf in
       let lg = next-sets m s _ 50 f lf (length name ∷ []) 1 refl (omega arith) g pg in
       next-part m s _ 51 g lg name (length name) refl (omega arith) h ph
 
   module _ (image : List ℕ) (base end : ℕ) (k : Block image base) (ends : end ≡ readEnd (part base 512 image))
       (room : end + padded (51 + length name) ≤ 512) where
     -- its stores, and zeros to the block's end
-    pub inserted-stores : (a b c d e f g h y : List ℕ) → a ≡ sets image (base + end + 0) (u16 0x8000)
-        → b ≡ paste a (base + end + 2) finder (length finder) → c ≡ sets b (base + end + 18) (u32 number) → d ≡ paste c (base + end + 22) (zeros 20) 20
-        → e ≡ sets d (base + end + 42) (u32 created) → f ≡ sets e (base + end + 46) (u32 changed) → g ≡ set f (base + end + 50) (length name)
+    pub inserted-stores : (a b c d e f g h y : List ℕ) → a ≡ sets image (base + end + 0) (bytes16 0x8000)
+        → b ≡ paste a (base + end + 2) finder (length finder) → c ≡ sets b (base + end + 18) (bytes32 number) → d ≡ paste c (base + end + 22) (zeros 20) 20
+        → e ≡ sets d (base + end + 42) (bytes32 created) → f ≡ sets e (base + end + 46) (bytes32 changed) → g ≡ set f (base + end + 50) (length name)
         → h ≡ paste g (base + end + 51) name (length name) → (at z : ℕ) → at ≡ base + end + (51 + length name) → z ≡ base + 512 - at
         → y ≡ paste h at (zeros z) z
         → y ≡ paste image base (filled (entries (part base 512 image) ++ (newEntry number name finder created changed ∷ []))) 512

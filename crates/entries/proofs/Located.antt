@@ -7,7 +7,7 @@ use native.Mathlib.Omega.{arith}
 use lib.ListN.{length, take, drop, length-append}
 use lib.Seq.{sets, paste, drop-drop}
 use Rattle.model.specs.Lists.{every, any, distinct, flat}
-use Rattle.model.specs.Bytes.{u32, part}
+use Rattle.model.specs.Bytes.{bytes32, part}
 use Rattle.model.specs.Facts.{dirStart, dirLength}
 use Rattle.model.specs.Directory.{entries, readAt, cutBlocks, directoryBlocks, listing, forkPlace, named}
 use Rattle.model.specs.Check.{goodEntry, sameNames, fires6}
@@ -25,12 +25,13 @@ use Rattle.laws.proofs.Image.{two-stores, one-block}
 use Rattle.laws.proofs.MapSteps.{forkWith}
 use Rattle.directory.specs.declared.Cursor.{Cursor}
 use Rattle.directory.specs.declared.EntryAt.{EntryAt}
+use Rattle.model.specs.declared.LogicalBlock.{LogicalBlock}
 use Rattle.directory.specs.Cursor.{blockOf, bytesAt, Begins, Comes, Lies}
 use Rattle.entries.specs.Blocks.{Block, Removes}
 use Rattle.entries.proofs.Stored.{fields}
 
 -- the directory's reading comes to its first entry
-pub begins-comes : (image : List ℕ) (start blocks : ℕ) (c : Cursor) → Begins start blocks c → Comes image (512 * start) blocks c
+pub begins-comes : (image : List ℕ) (start : LogicalBlock) (blocks : ℕ) (c : Cursor) → Begins start blocks c → Comes image (512 * start .0) blocks c
 unfolding entries flat
 begins-comes image start blocks c b = record {
   index = 0;
@@ -205,7 +206,7 @@ module _ (f : VolumeFacts) (image : List ℕ) (e : EntryAt) (l : Lies image (512
 
       -- the stores of a fork's fields and the change date
       pub fork-stored : 512 * dirStart f .0 + 512 * dirLength f ≤ length image → (fork : Fork) (a logical : ℕ) (bs : List ℕ) (changed : ℕ)
-          → sets (sets image (e .start + forkPlace fork) (fields (forkWith a logical bs))) (e .start + 46) (u32 changed)
+          → sets (sets image (e .start + forkPlace fork) (fields (forkWith a logical bs))) (e .start + 46) (bytes32 changed)
           ≡ withDirectory f image (rewritten name (withFork fork a logical bs changed) (directoryBlocks f image))
       unfolding withFork
       fork-stored within fork a logical bs changed =
@@ -213,7 +214,7 @@ module _ (f : VolumeFacts) (image : List ℕ) (e : EntryAt) (l : Lies image (512
           let p = length (flat (l .before)) in
           let i = forkPlace fork in
           let vs = fields (forkWith a logical bs) in
-          let ws = u32 changed in
+          let ws = bytes32 changed in
           let n = entry-long in
           let m = entry-within in
           let h = place-high fork in

@@ -4,7 +4,7 @@ ghost use mathlib.Core.List.{_++_};
 ghost use Prim.Native.Nat.{_+_, _≤_};
 ghost use lib.ListN.{length};
 ghost use lib.Seq.{sets};
-ghost use Rattle.model.specs.Bytes.{u16, u32};
+ghost use Rattle.model.specs.Bytes.{bytes16, bytes32};
 ghost use Rattle.model.specs.Directory.{forkPlace};
 ghost use Rattle.directory.specs.Cursor.{Stands};
 use crate::numbers::put16_at;
@@ -26,7 +26,7 @@ fn fork_place(fork: Fork) -> usize
 // Stores a fork's start, logical and physical length.
 fn put_fork(image: &mut [u8], at: usize, g: ForkFacts)
     requires { ⌜ at + 10 ≤ length (now image) ⌝ }
-    ensures { λ _. ⌜ now (image .exit) ≡ sets (now (image .entry)) at (u16 (g .start .0) ++ (u32 (g .logical) ++ u32 (g .physical))) ⌝ }
+    ensures { λ _. ⌜ now (image .exit) ≡ sets (now (image .entry)) at (bytes16 (g .start .0) ++ (bytes32 (g .logical) ++ bytes32 (g .physical))) ⌝ }
 {
     put16_at(image, at, g.start.0);
     put32_at(image, at + 2, g.logical);
@@ -36,7 +36,7 @@ fn put_fork(image: &mut [u8], at: usize, g: ForkFacts)
 // Stores the fork's fields and the change date of the entry.
 pub fn store_fork(image: &mut [u8], e: EntryAt, fork: Fork, g: ForkFacts, changed: u32)
     requires { ⌜ Stands (now image) e ⌝ }
-    ensures { λ _. ⌜ now (image .exit) ≡ sets (sets (now (image .entry)) (e .start + forkPlace fork) (u16 (g .start .0) ++ (u32 (g .logical) ++ u32 (g .physical)))) (e .start + 46) (u32 changed) ⌝ }
+    ensures { λ _. ⌜ now (image .exit) ≡ sets (sets (now (image .entry)) (e .start + forkPlace fork) (bytes16 (g .start .0) ++ (bytes32 (g .logical) ++ bytes32 (g .physical)))) (e .start + 46) (bytes32 changed) ⌝ }
 {
     let at = e.start + fork_place(fork);
     put_fork(image, at, g);

@@ -5,7 +5,7 @@ ghost use Prim.Native.Nat.{_+_, _≤_};
 ghost use lib.ListN.{length};
 ghost use lib.Seq.{paste};
 ghost use Rattle.model.specs.Bytes.{part};
-ghost use Rattle.model.specs.Directory.{padded, entries, readEnd};
+ghost use Rattle.model.specs.Directory.{sizeFor, entries, readEnd};
 ghost use Rattle.model.specs.Calls.{newEntry, filled};
 ghost use Rattle.directory.specs.Cursor.{Passes};
 ghost use Rattle.entries.specs.Blocks.{Block};
@@ -59,7 +59,7 @@ pub fn insert_entry(
     changed: u32,
 )
     requires { ⌜ Block (now image) base ⌝ }
-    requires { ⌜ (end ≡ readEnd (part base 512 (now image))) × (end + padded (51 + length (now name)) ≤ 512) × (length (now name) ≤ 255) ⌝ }
+    requires { ⌜ (end ≡ readEnd (part base 512 (now image))) × (end + sizeFor (length (now name)) ≤ 512) × (length (now name) ≤ 255) ⌝ }
     ensures { λ _. ⌜ now (image .exit) ≡ paste (now (image .entry)) base (filled (entries (part base 512 (now (image .entry))) ++ (newEntry number (now (name .entry)) (now (finder .entry)) created changed ∷ []))) 512 ⌝ }
 {
     let at = base + end;

@@ -8,7 +8,7 @@ use native.Mathlib.Omega.{arith}
 use lib.ListN.{length}
 use lib.Seq.{sets}
 use Rattle.model.specs.Lists.{distinct, flat}
-use Rattle.model.specs.Bytes.{u32}
+use Rattle.model.specs.Bytes.{bytes32}
 use Rattle.model.specs.Facts.{factsOf, dirStart, dirLength}
 use Rattle.model.specs.Directory.{padded, listing, directory, directoryBlocks, forkPlace, named}
 use Rattle.model.specs.Check.{Accepted, sameNames}
@@ -34,7 +34,7 @@ module _ {image name : List ℕ} {place : ℕ} {e : EntryAt} (acc : Accepted ima
   abbrev f : VolumeFacts
   f = factsOf image
 
-  r : steps.Readable image
+  r : steps.ReadableDirectory image
   r = steps.readable image (accepted-passes image acc)
 
   clean : Cleans (directoryBlocks f image)
@@ -79,7 +79,7 @@ module _ {image name : List ℕ} {place : ℕ} {e : EntryAt} (acc : Accepted ima
   stands = stands-elsewhere f image base (b .blocks) e (h .lies) within (b .long) (h .there .stands)
 
   pub stored : (fork : Fork) (a logical : ℕ) (bs : List ℕ) (changed : ℕ)
-      → sets (sets base (e .start + forkPlace fork) (fields (forkWith a logical bs))) (e .start + 46) (u32 changed)
+      → sets (sets base (e .start + forkPlace fork) (fields (forkWith a logical bs))) (e .start + 46) (bytes32 changed)
       ≡ withDirectory f base (rewritten name (withFork fork a logical bs changed) (directoryBlocks f image))
   stored fork a logical bs changed =
       fork-stored f base e lies name has-same differ-same clean-same within-same fork a logical bs changed
@@ -106,7 +106,7 @@ module _ {f : VolumeFacts} {image : List ℕ} {e : EntryAt} (h : FileAt f image 
 
   -- the stores of a fork's fields and the change date
   pub held-stored : (fork : Fork) (a logical : ℕ) (bs : List ℕ) (changed : ℕ)
-      → sets (sets base (e .start + forkPlace fork) (fields (forkWith a logical bs))) (e .start + 46) (u32 changed)
+      → sets (sets base (e .start + forkPlace fork) (fields (forkWith a logical bs))) (e .start + 46) (bytes32 changed)
       ≡ withDirectory f base (rewritten (h .name) (withFork fork a logical bs changed) (directoryBlocks f image))
   held-stored fork a logical bs changed =
       stored (h .readable .accepted) (h .found) base b fork a logical bs changed

@@ -10,7 +10,7 @@ use lib.ListN.{length}
 use Rattle.model.specs.Lists.{placeOf}
 use Rattle.model.specs.Facts.{N, A, S, freeCount}
 use Rattle.model.specs.Map.{mapEntry, runs, freeBlocks}
-use Rattle.model.specs.Directory.{directory, named, forkOf}
+use Rattle.model.specs.Directory.{directory, named, forkOf, blockCount}
 use Rattle.model.specs.Check.{SoundFork}
 use Rattle.model.specs.Calls.{entryNamed}
 use Rattle.model.proofs.Map.{chain-runs}
@@ -71,6 +71,7 @@ module _ {f : VolumeFacts} {image name : List ℕ} {place : ℕ} {e : EntryAt} (
         omega arith
 
     pub has-chain : 0 < g .physical / A f → runs (mapEntry image) (N f) (g .physical / A f) (g .start .0) ≡ true
+    unfolding blockCount
     has-chain l = chain-runs (mapEntry image) (N f) (fork-sound .chain (starts 0 l))
 
     pub few-blocks : (i : ℕ) → i < g .physical / A f → i < 640

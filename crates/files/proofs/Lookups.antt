@@ -59,8 +59,8 @@ module _ {f : VolumeFacts} {image : List ℕ} (r : Readable f image) where
   some-block = rw (r .facts) (r .accepted .facts .layout .dirSome)
 
   -- from its first entry on
-  module _ {c : Cursor} (b : Begins (dirStart f .0) (dirLength f) c) where
-    begins : Begins (dirStart (factsOf image) .0) (dirLength (factsOf image)) c
+  module _ {c : Cursor} (b : Begins (dirStart f) (dirLength f) c) where
+    begins : Begins (dirStart (factsOf image)) (dirLength (factsOf image)) c
     begins = rw (r .facts) at b
 
     pub first-passes : Passes image c
@@ -84,7 +84,7 @@ module _ {f : VolumeFacts} {image : List ℕ} (r : Readable f image) where
           record {
             title = good;
             there = rw first-rest at (rw p at h);
-            lies = (rw p at l) (512 * dirStart f′ .0) (dirLength f′) (begins-comes image (dirStart f′ .0) (dirLength f′) c begins);
+            lies = (rw p at l) (512 * dirStart f′ .0) (dirLength f′) (begins-comes image (dirStart f′) (dirLength f′) c begins);
           }
 
       pub found-none : s ≡ found.Nothing → Missed image name 13

@@ -71,6 +71,7 @@ module _ {f : VolumeFacts} {image : List ℕ} {e : EntryAt} (h : FileAt f image 
         go Resource = omega (arith, both-count)
 
     pub fork-runs : 0 < g .physical / A f → runs (mapEntry image) (N f) (g .physical / A f) (g .start .0) ≡ true
+    unfolding blockCount
     fork-runs l =
         chain-runs (mapEntry image) (N f)
         (fork-sound (h .readable) (h .found) fork q .chain (starts (h .readable) (h .found) fork q 0 l))

@@ -26,13 +26,13 @@ use Rattle.files.specs.declared.Named.the-variants.{At, Refused}
 use Rattle.files.specs.declared.NamedFork.{NamedFork}
 use Rattle.files.specs.declared.NamedFork.the-variants as variant
 use Rattle.files.specs.Lookup.{Readable, NamedEntry, Missed, ForkAt}
-use Rattle.files.specs.Lookup.{begins, Barred, Changeable, MayChange, beyondEnd, ChangeableFork, MayChangeFork}
+use Rattle.files.specs.Lookup.{barred, Barred, Changeable, MayChange, beyondEnd, ChangeableFork, MayChangeFork}
 use Rattle.files.proofs.Forks.{named-bytes, named-fork}
 use Rattle.files.proofs.Replies.{fires-before, refuse, serve}
 
 -- the call's refusals begin so, and it tells nothing but its number
 pub record Changing (call : Call) (image name : List ℕ) (beyond : Bool) (rest : ℕ) : Type 0 where
-  pub own : refuses call (knownIn image (nameOf call) (forkGiven call)) ≡ begins image name beyond rest
+  pub own : refuses call (knownIn image (nameOf call) (forkGiven call)) ≡ barred image name beyond rest
   pub lends : lent call ≡ []
   pub tells : reply call image ≡ only 0 []
 
@@ -69,7 +69,7 @@ before-rest false false false true e rest z = refl
 before-rest false false false false true rest z = refl
 before-rest false false false false false rest z = absurd (z refl)
 
-barred-before : (image name : List ℕ) (beyond : Bool) (rest number : ℕ) → Barred image name beyond number → number ≡ begins image name beyond rest
+barred-before : (image name : List ℕ) (beyond : Bool) (rest number : ℕ) → Barred image name beyond number → number ≡ barred image name beyond rest
 barred-before image name beyond rest number h =
     h .fires ∙ before-rest (isLocked (factsOf image)) (badName name) (not (any (named name) (directory image)))
     (flagsLock (byte (entryNamed name image) 0)) beyond rest (λ e. h .some (h .fires ∙ e))
@@ -102,7 +102,7 @@ module _ {f : VolumeFacts} {image : List ℕ} (r : Readable f image) (name : Lis
 
 -- past 11, 12, 13 and 15
 past-15 : {f : VolumeFacts} {image name : List ℕ} {place : ℕ} {e : EntryAt} → Readable f image → Changeable image name place e
-    → (beyond : Bool) (rest : ℕ) → begins image name beyond rest ≡ orElse beyond 16 rest
+    → (beyond : Bool) (rest : ℕ) → barred image name beyond rest ≡ orElse beyond 16 rest
 past-15 r h beyond rest =
     let l = rw (named-bytes r (h .found)) at (h .unlocked) in
     rw (h .writable, h .found .title, h .found .there .exists, l)
@@ -158,7 +158,7 @@ module _ {f : VolumeFacts} {image name : List ℕ} {fork : Fork} {offset : ℕ} 
 module _ {f : VolumeFacts} {image : List ℕ} (r : Readable f image) (octets : Bytes image)
     {call : Call} {name : List ℕ} {beyond : Bool} {rest : ℕ} (c : Changing call image name beyond rest) (fits : Fits call) where
   -- refused by n
-  stops : (n : ℕ) → n ≡ begins image name beyond rest → (n ≡ 0 → ⊥) → Does call image (toldNumber n) image
+  stops : (n : ℕ) → n ≡ barred image name beyond rest → (n ≡ 0 → ⊥) → Does call image (toldNumber n) image
   stops n h z = subst (λ (l : List ℕ). Does call image (only n l) image) (c .lends) (refuse r octets call n fits (h ∙ sym (c .own)) z)
 
   -- 11, 12, 13, 15 or 16
@@ -166,7 +166,7 @@ module _ {f : VolumeFacts} {image : List ℕ} (r : Readable f image) (octets : B
   refused {n} h = stops n (barred-before image name beyond rest n h) (h .some)
 
   module _ {place : ℕ} {e : EntryAt} (h : Changeable image name place e) (within : beyond ≡ false) where
-    past-16 : begins image name beyond rest ≡ rest
+    past-16 : barred image name beyond rest ≡ rest
     past-16 = past-15 r h beyond rest ∙ rw within
 
     -- 17

@@ -48,14 +48,14 @@ pub record Changeable (image name : List ℕ) (place : ℕ) (e : EntryAt) : Type
   pub unlocked : flagsLock (byte (bytesAt image e) 0) ≡ false
 
 -- 11, 12, 13, 15 and, beyond a fork's end, 16, which a call that changes the file of a name begins with, then the rest
-abbrev pub begins : List ℕ → List ℕ → Bool → ℕ → ℕ
-begins image name beyond rest =
+abbrev pub barred : List ℕ → List ℕ → Bool → ℕ → ℕ
+barred image name beyond rest =
     orElse (isLocked (factsOf image)) 11 (orElse (badName name) 12 (orElse (not (any (named name) (directory image))) 13
     (orElse (flagsLock (byte (entryNamed name image) 0)) 15 (orElse beyond 16 rest))))
 
 -- one of them
 pub record Barred (image name : List ℕ) (beyond : Bool) (number : ℕ) : Type 0 where
-  pub fires : number ≡ begins image name beyond 0
+  pub fires : number ≡ barred image name beyond 0
   pub some : number ≡ 0 → ⊥
 
 -- a call that asks for no fork has no 16

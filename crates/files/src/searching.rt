@@ -15,7 +15,7 @@ use model::VolumeFacts;
 // At the first entry of the volume's directory.
 pub fn first_entry(f: VolumeFacts) -> Cursor
     requires { ⌜ 1 ≤ dirLength f ⌝ }
-    ensures { λ r. ⌜ Begins (dirStart f .0) (dirLength f) r ⌝ }
+    ensures { λ r. ⌜ Begins (dirStart f) (dirLength f) r ⌝ }
 {
     let start = f.directory_start;
     Cursor::new(start, f.directory_length)

@@ -225,6 +225,7 @@ module _ (image : List ℕ) (s : LogicalBlock) (a : ℕ) (g : ForkFacts) (h : Co
     from-start z = omega (arith, sound .empty z .0)
 
     fork-runs : runs (mapEntry image) (h .n) (g .physical / a) (g .start .0) ≡ true
+    unfolding blockCount
     fork-runs = chain-runs (mapEntry image) (h .n) (sound .chain from-start)
 
     below : offset / a < g .physical / a

@@ -9,12 +9,12 @@ use borrow.Author.Tests.{lt-ltb, le-ltb, ltb-false}
 use Rattle.model.specs.Facts.{A, freeCount}
 use Rattle.model.specs.Directory.{blockCount}
 use Rattle.model.specs.Check.{orElse}
-use Rattle.model.specs.Calls.{fewest, grown, needed}
+use Rattle.model.specs.Calls.{fewest, grown, needed, newBlocks}
 use Rattle.model.specs.declared.VolumeFacts.{VolumeFacts}
 use Rattle.model.specs.declared.ForkFacts.{ForkFacts}
 use Rattle.laws.proofs.Content.{fewest-holds, fewest-least}
 use Rattle.forks.specs.declared.NewBlocks.{NewBlocks}
-use Rattle.forks.specs.Growth.{newBlocks, Grows}
+use Rattle.forks.specs.Growth.{Grows}
 
 -- no more blocks than bytes
 pub fewest-most : (n a : ℕ) → 0 < a → fewest n a ≤ n

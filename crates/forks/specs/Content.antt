@@ -25,7 +25,7 @@ pub record Copyable (image : List ℕ) (s : LogicalBlock) (a : ℕ) (g : ForkFac
   pub area : Blocks image s a n
   pub good : goodFork (mapEntry image) n a g ≡ true
 
--- a chain of k of them that runs from t, or with k = 0 none has to
+-- a chain of k such blocks runs from t, or with k = 0 none has to
 pub record Fillable (image : List ℕ) (s : LogicalBlock) (a t k : ℕ) : Type 0 where
   pub n : ℕ
   pub area : Blocks image s a n

@@ -2,19 +2,14 @@
 use Prim.Native.Nat.{ℕ}
 use mathlib.Core.Path.{_≡_}
 use lib.Dec.{ltb}
-use Rattle.model.specs.Facts.{A, freeCount}
-use Rattle.model.specs.Directory.{blockCount}
+use Rattle.model.specs.Facts.{freeCount}
 use Rattle.model.specs.Check.{orElse}
-use Rattle.model.specs.Calls.{grown, needed}
+use Rattle.model.specs.Calls.{newBlocks}
 use Rattle.model.specs.declared.VolumeFacts.{VolumeFacts}
 use Rattle.model.specs.declared.ForkFacts.{ForkFacts}
 use Rattle.forks.specs.declared.NewBlocks.{NewBlocks}
 
--- those of a write of n bytes at o in the fork g
-unfoldable pub newBlocks : VolumeFacts → ForkFacts → ℕ → ℕ → ℕ
-newBlocks f g o n = needed (A f) (grown (g .logical) o n) (blockCount (A f) g)
-
--- r says 17 where they exceed those free, and else how many they are
+-- r says 17 where the new blocks of a write of n bytes at o in the fork g exceed those free, and else how many they are
 pub record Grows (f : VolumeFacts) (g : ForkFacts) (o n : ℕ) (r : NewBlocks) : Type 0 where
   pub number : r .number ≡ orElse (ltb (freeCount f) (newBlocks f g o n)) 17 0
   pub blocks : r .blocks ≡ orElse (ltb (freeCount f) (newBlocks f g o n)) 0 (newBlocks f g o n)

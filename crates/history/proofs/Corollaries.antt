@@ -16,17 +16,18 @@ use Rattle.model.specs.Facts.{factsOf, N, A, freeCount}
 use Rattle.model.specs.Map.{mapEntry}
 use Rattle.model.specs.Directory.{directory, forkOf, forksIn, blockCount, sameName}
 use Rattle.model.specs.Check.{Accepted}
-use Rattle.model.specs.Calls.{Call, Answer, nameOf, forkGiven, Known, badName, refuses, entryNamed, knownIn, readCount, copied, answer, after, lent, Does}
+use Rattle.model.specs.Calls.{Call, Answer, nameOf, forkGiven, Known, badName, refuses, entryNamed, knownIn, readCount, copied}
+use Rattle.model.specs.Calls.{newBlocks, answer, after, lent, Does}
 use Rattle.model.specs.Calls.Call.{read, write, delete}
 use Rattle.history.specs.History.{File, History, blocksOf, noFile, heldOf, called, fileCalled, knownTo, declines, writes}
 use Rattle.model.specs.Bytes.{overwritten}
 use Rattle.history.specs.History.{changedFork, onCalled, moves, step, Told, toldBy, toldOnly, says, tells, filesIn, reading, Agrees, Event, Run}
-use Rattle.history.specs.History.{isFull, asked, changes, datesGiven, RoomRule, InStep, Holds, EveryRun}
+use Rattle.history.specs.History.{is18, asked, changes, datesGiven, RoomRule, InStep, Holds, EveryRun}
 use Rattle.history.specs.Among.{HasFile, lastImage}
 use Rattle.history.specs.Untouched.{NoneNames, Untouched}
 use Rattle.history.specs.Deleting.{Deleting}
 use Rattle.history.specs.Dates.{Dates}
-use Rattle.history.specs.Room.{newBlocks, Room}
+use Rattle.history.specs.Room.{Room}
 use Rattle.history.specs.InPieces.{Writes, InPieces}
 use Rattle.history.specs.ReadBack.{ReadBack}
 use Rattle.history.specs.EveryList.{made, AllFit, EveryList}
@@ -65,7 +66,7 @@ stays : (events : List Event) (image : List ℕ) (h : History) (x : File) → Ag
 unfolding Holds NoneNames lastImage called
 stays [] image h x a s n i = in-reordered noFile x (back (a .files)) i
 stays (e ∷ events) image h x a s n i =
-    stays events (e .left) (step h (isFull e) (e .call)) x (s .0 .agrees) (s .1) (n .1) (step-keeps h (isFull e) (e .call) x (n .0) i)
+    stays events (e .left) (step h (is18 e) (e .call)) x (s .0 .agrees) (s .1) (n .1) (step-keeps h (is18 e) (e .call) x (n .0) i)
 
 pub untouched : Untouched
 unfolding Untouched EveryRun reading
@@ -95,14 +96,14 @@ pub dates : Dates
 unfolding Dates reading
 dates image left call given x acc m i =
     let e : Event = record { call = call; given = given; left = left } in
-    step-dates (reading image) (isFull e) call x (in-reordered noFile x (one-step e image acc m .agrees .files) i)
+    step-dates (reading image) (is18 e) call x (in-reordered noFile x (one-step e image acc m .agrees .files) i)
 
 -- ---- Room
 
 only-full : (image name : List ℕ) (fork : Fork) (offset : ℕ) (bytes : List ℕ) (changed : ℕ) (given : Answer) (left : List ℕ)
     → Accepted image → Does (write name fork offset bytes changed) image given left → given .number ≡ 17
-    → freeCount (factsOf image) < newBlocks image name fork offset (length bytes)
-unfolding RoomRule reading knownTo knownIn EveryRun Run filesIn
+    → freeCount (factsOf image) < newBlocks (factsOf image) (forkOf fork (entryNamed name image)) offset (length bytes)
+unfolding newBlocks RoomRule reading knownTo knownIn EveryRun Run filesIn
 only-full image name fork offset bytes changed given left acc m n =
     let f = factsOf image in
     let e : Event = record { call = write name fork offset bytes changed; given = given; left = left } in
@@ -137,9 +138,9 @@ told-number h full n call = go (declines h full call) (eqb (declines h full call
     go r true e = lawful call .said h n ∙ sym (eqb-true r 0 e)
     go r false e = refl
 
-declined : (e : Event) (image : List ℕ) (h : History) → InStep e image h → e .given .number ≡ declines h (isFull e) (e .call)
+declined : (e : Event) (image : List ℕ) (h : History) → InStep e image h → e .given .number ≡ declines h (is18 e) (e .call)
 unfolding toldBy
-declined e image h s = ap (λ (t : Told). t .number) (s .told) ∙ told-number h (isFull e) (asked image (e .call)) (e .call)
+declined e image h s = ap (λ (t : Told). t .number) (s .told) ∙ told-number h (is18 e) (asked image (e .call)) (e .call)
 
 -- one fork of one file
 module _ (name : List ℕ) (fork : Fork) where
@@ -222,7 +223,7 @@ module _ (name : List ℕ) (fork : Fork) where
   pieces-hold [] (e ∷ events) final image h o q sofar s p w c = absurd w
   pieces-hold (xs ∷ pieces) [] final image h o q sofar s p w c = absurd w
   pieces-hold (xs ∷ pieces) (e ∷ events) final image h o q sofar s p w c =
-      let full = isFull e in
+      let full = is18 e in
       let call : e .call ≡ write name fork (o + length sofar) xs (w .0 .0) = w .0 .1 ∙ ap (λ (i : ℕ). write name fork i xs (w .0 .0)) (sym p) in
       let z = sym (declined e image h (c .0)) ∙ w .1 in
       let n : Holding (step h full (e .call)) o (sofar ++ xs) =
@@ -239,14 +240,14 @@ module _ (name : List ℕ) (fork : Fork) where
   first-allowed xs pieces [] final image h o w c = absurd w
   first-allowed xs pieces (e ∷ events) final image h o w c =
       let z = sym (declined e image h (c .0)) ∙ w .1 in
-      write-allowed h (isFull e) o xs (w .0 .0) (subst (λ (k : Call). declines h (isFull e) k ≡ 0) (w .0 .1) z)
+      write-allowed h (is18 e) o xs (w .0 .0) (subst (λ (k : Call). declines h (is18 e) k ≡ 0) (w .0 .1) z)
 
   -- a read of bytes that are there
   read-holds : (h : History) (o : ℕ) (all : List ℕ) (e : Event) (image buffer : List ℕ) → Holding h o all → e .call ≡ read name fork o buffer → InStep e image h
       → length buffer ≡ length all → (e .given .number ≡ 0) × (e .given .count ≡ length buffer) × (e .given .buffer ≡ all)
   unfolding toldBy tells says declines refuses knownTo nameOf forkGiven bytesIn readCount copied
   read-holds h o all e image buffer s call c l =
-      let full = isFull e in
+      let full = is18 e in
       let k = read name fork o buffer in
       let z : declines h full k ≡ 0 = rw (s .titled, s .there, le-ltb (length (bytesIn h)) o (omega (arith, s .within))) refl in
       let t : toldBy (e .given) ≡ says h (asked image (e .call)) k = c .told ∙ rw call (rw z) in

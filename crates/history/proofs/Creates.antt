@@ -19,7 +19,7 @@ use Rattle.laws.proofs.Reorder.{after-create}
 use Rattle.laws.proofs.MapSteps.{blankFork, Framed, blank-bytes, blank-count}
 use Rattle.laws.proofs.Entry.{new-flags, new-number, new-name, new-finder, new-created, new-changed, new-fork}
 use Rattle.laws.proofs.Blocks.{Inserted, inserted-reordered}
-use Rattle.laws.proofs.DirectorySteps.{Stepped}
+use Rattle.laws.proofs.DirectorySteps.{DirectoryStored}
 use Rattle.laws.proofs.Refusals.{MayCreate, may-create}
 use Rattle.laws.proofs.Creates.{left, inserted, step, map-changed, create-accepted, is-left}
 use Rattle.laws.proofs.BytesKept.{created-bytes}
@@ -63,7 +63,7 @@ module _ (image : List ℕ) (acc : Accepted image) (name finder : List ℕ) (mad
   abbrev i : Inserted new (directory image) all
   i = inserted image acc name finder made changed whole m
 
-  abbrev t : Stepped image image all (f .files + 1) (nextNumber f + 1) (freeCount f) after
+  abbrev t : DirectoryStored image image all (f .files + 1) (nextNumber f + 1) (freeCount f) after
   t = step image acc name finder made changed whole m
 
   same-files : map (fileIn f after) (directory image) ≡ map (fileIn f image) (directory image)

@@ -18,15 +18,15 @@ use Rattle.model.specs.declared.Fork.the-variants.{Data, Resource}
 use Rattle.model.proofs.Times.{times-append}
 use Rattle.laws.proofs.Reorder.{Alone, after-delete}
 use Rattle.laws.proofs.MapSteps.{bothBlocks}
-use Rattle.laws.proofs.DirectorySteps.{Stepped}
-use Rattle.laws.proofs.Refusals.{MayChange, may-delete}
+use Rattle.laws.proofs.DirectorySteps.{DirectoryStored}
+use Rattle.laws.proofs.Refusals.{MayChangeFile, may-delete}
 use Rattle.laws.proofs.TheEntry.{it-alone, the-entry}
 use Rattle.laws.proofs.Deletes.{freed, free, base, rest, left, frame, step, map-changed, listed, delete-accepted, is-left}
 use Rattle.laws.proofs.BytesKept.{deleted-bytes}
 use Rattle.history.proofs.Reading.{SameVolume, agrees-from, files-around}
 use Rattle.history.proofs.Joined.{only-named, Done}
 
-module _ (image : List ℕ) (acc : Accepted image) (name : List ℕ) (m : MayChange image name) where
+module _ (image : List ℕ) (acc : Accepted image) (name : List ℕ) (m : MayChangeFile image name) where
   abbrev f : VolumeFacts
   f = factsOf image
 
@@ -39,7 +39,7 @@ module _ (image : List ℕ) (acc : Accepted image) (name : List ℕ) (m : MayCha
   abbrev others : List (List ℕ)
   others = rest image acc name m
 
-  abbrev t : Stepped image (base image acc name m) others (f .files - 1) (nextNumber f) (free image acc name m) after
+  abbrev t : DirectoryStored image (base image acc name m) others (f .files - 1) (nextNumber f) (free image acc name m) after
   t = step image acc name m
 
   same-files : map (fileIn f after) others ≡ map (fileIn f image) others

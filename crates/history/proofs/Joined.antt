@@ -16,7 +16,7 @@ use Rattle.history.specs.History.{inBlock, inEntry, inDirectory, inFiles
 use Rattle.model.specs.declared.VolumeFacts.{VolumeFacts}
 use Rattle.model.proofs.Lists.{or-false}
 use Rattle.laws.proofs.MapSteps.{Framed}
-use Rattle.laws.proofs.DirectorySteps.{Stepped}
+use Rattle.laws.proofs.DirectorySteps.{DirectoryStored}
 
 -- what a call that is not refused does
 pub record Done (call : Call) (image : List ℕ) (h : History) : Type 0 where
@@ -32,7 +32,7 @@ alone P d h (suc i) l = absurd (omega arith)
 
 -- only the named bytes differ, where the blocks bs are the named fork's before or after, and one directory block may
 pub only-named : (image : List ℕ) (call : Call) (bs base left : List ℕ) (es : List (List ℕ)) (files number free : ℕ) → 1 ≤ following call .directories
-    → Stepped image base es files number free left → Framed (S (factsOf image)) (A (factsOf image)) bs image base
+    → DirectoryStored image base es files number free left → Framed (S (factsOf image)) (A (factsOf image)) bs image base
     → ((b : ℕ) → 1 ≤ times b bs → 1 ≤ times b (namedBlocks call image ++ namedBlocks call left)) → OnlyNamed call image left
 only-named image call bs base left es files number free one t r sub = record {
   size = t .long;

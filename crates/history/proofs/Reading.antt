@@ -18,7 +18,7 @@ use Rattle.model.specs.declared.Fork.the-variants.{Data, Resource}
 use Rattle.model.proofs.Lists.{same-list, reordered-length}
 use Rattle.laws.proofs.Sound.{Each, each-same}
 use Rattle.laws.proofs.MapChecks.{blockCounts, all-blocks}
-use Rattle.laws.proofs.MapSteps.{Changed}
+use Rattle.laws.proofs.MapSteps.{ForksChanged}
 use Rattle.laws.proofs.Acceptance.{map-passes}
 
 -- ---- the blocks of files
@@ -97,7 +97,7 @@ files-same f g image left (e ∷ es) s a h =
 
 -- the files of entries around a change, of whose forks the change leaves the bytes
 pub files-around : (f : VolumeFacts) (n free : ℕ) (image left : List ℕ) (p q es : List (List ℕ)) (now : List ForkFacts) → es ≡ p ++ q
-    → Changed (S f) (A f) n free image left (forksIn p) now (forksIn q) → map (fileIn f left) es ≡ map (fileIn f image) es
+    → ForksChanged (S f) (A f) n free image left (forksIn p) now (forksIn q) → map (fileIn f left) es ≡ map (fileIn f image) es
 files-around f n free image left p q es now e c =
     let before : List ℕ → ForkFacts → List ℕ = forkBytes (S f) (A f) in
     let x = files-same f f image left p refl refl (each-same (before left) (before image) (forksIn p) (c .bytesBefore)) in

@@ -9,7 +9,7 @@ use borrow.Author.Tests.{eqb-true, eq-eqb, ne-eqb}
 use Rattle.model.specs.Check.{Accepted}
 use Rattle.model.specs.Calls.{Call, nameOf, forkGiven, Known, refuses, knownIn, refusal, change, only, reply, lent, answer, Does}
 use Rattle.history.specs.History.{History, knownTo, declines, moves, step, says, tells, toldBy, toldOnly, asked, Agrees, reading}
-use Rattle.history.specs.History.{Told, Event, Run, isFull, RoomRule, InStep, Holds, EveryRun}
+use Rattle.history.specs.History.{Told, Event, Run, is18, RoomRule, InStep, Holds, EveryRun}
 use Rattle.laws.proofs.Refusals.{own-is, refused, done, withFull}
 use Rattle.history.proofs.Answers.{known-same, only-told}
 use Rattle.history.proofs.Reading.{starts}
@@ -63,7 +63,7 @@ module _ (image : List ℕ) (h : History) (acc : Accepted image) (a : Agrees ima
 
 -- one event
 pub event : (e : Event) (image : List ℕ) (h : History) → Accepted image → Agrees image h → Does (e .call) image (e .given) (e .left) → InStep e image h
-unfolding isFull
+unfolding is18
 event e image h acc a m =
     let call = e .call in
     let n : e .given .number ≡ refusal call image = ap (λ r. r .number) (m .answers) ∙ number-is call image in
@@ -101,7 +101,7 @@ unfolding Run Holds
 holds [] image h acc a r = tt
 holds (e ∷ events) image h acc a r =
     let s = event e image h acc a (r .0) in
-    (s, holds events (e .left) (step h (isFull e) (e .call)) (s .accepted) (s .agrees) (r .1))
+    (s, holds events (e .left) (step h (is18 e) (e .call)) (s .accepted) (s .agrees) (r .1))
 
 pub every-run : EveryRun
 unfolding EveryRun

@@ -250,8 +250,8 @@ unfoldable pub blocksNamed : List ℕ → List ℕ → Fork → List ℕ
 blocksNamed image name fork = forkBlocks (mapEntry image) (A (factsOf image)) (forkOf fork (entryNamed name image))
 
 -- no call but a write gets 17
-abbrev neverFull : History → ℕ → Type 0
-neverFull h number = number ≡ 17 → ⊥
+abbrev never17 : History → ℕ → Type 0
+never17 h number = number ≡ 17 → ⊥
 
 -- no file gets a date
 abbrev noDates : (File → Type 0) → File → Type 0
@@ -266,7 +266,7 @@ reads says asked = record {
   changes = false;
   blocks = λ image. [];
   directories = 0;
-  room = neverFull;
+  room = never17;
   dates = noDates;
 }
 
@@ -324,7 +324,7 @@ following (create name finder created changed) = alters
       files = h .files ++ (newFile (nextNumber (h .facts)) name finder created changed ∷ []);
     })
     (λ image. [])
-    neverFull
+    never17
     (λ was x. (x .name ≡ name) × (x .created ≡ created) × (x .changed ≡ changed))
 -- A write that passes the checks before 17 gets 17 exactly when it needs more new blocks than are free.
 following (write name fork offset bytes changed) = alters
@@ -335,13 +335,13 @@ following (write name fork offset bytes changed) = alters
 following (cut name fork size changed) = alters
     (λ h. record { facts = h .facts; files = map (onCalled name (changedFork fork (cuts (A (h .facts)) size) changed)) (h .files) })
     (λ image. blocksNamed image name fork)
-    neverFull
+    never17
     (dateChanged name changed)
 -- Delete drops the file.
 following (delete name) = alters
     (λ h. record { facts = h .facts; files = keep (λ x. not (called name x)) (h .files) })
     (λ image. blocksNamed image name Data ++ blocksNamed image name Resource)
-    neverFull
+    never17
     noDates
 
 -- ---- The history after a call, and what it tells of it
@@ -406,8 +406,8 @@ Run image [] = Unit
 Run image (e ∷ events) = Does (e .call) image (e .given) (e .left) × Run (e .left) events
 
 -- of the answer, the history is told this alone
-unfoldable pub isFull : Event → Bool
-isFull e = eqb (e .given .number) 18
+unfoldable pub is18 : Event → Bool
+is18 e = eqb (e .given .number) 18
 
 -- the number of the file that the image's reading has at the place asked
 unfoldable pub asked : List ℕ → Call → ℕ
@@ -428,7 +428,7 @@ directoryAt ds i = getD ds i (record { 0 = 0 }) .0
 
 -- The half-bytes that a change may touch, where bs are the blocks that the named fork has before or after and ds are directory
 -- blocks: the blocks bs and their map entries (each three half-bytes), the directory blocks, the number of files, the next file
--- number, the free count. A neighbour's half-byte and dead space are not among them.
+-- number, the free count. A neighbour's half-byte and dead space are not among them. The map starts at half-byte 2,176.
 pub data MayDiffer (f : VolumeFacts) (bs : List ℕ) (ds : List LogicalBlock) : ℕ → Type 0 where
   inBlock : (b h : ℕ) → 1 ≤ times b bs → Within (blockByte (S f) (A f) (record { 0 = b })) (A f) h → MayDiffer f bs ds h
   inEntry : (b h : ℕ) → 1 ≤ times b bs → 2176 + 3 * (b - 2) ≤ h → h < 2179 + 3 * (b - 2) → MayDiffer f bs ds h
@@ -460,9 +460,9 @@ pub record InStep (e : Event) (image : List ℕ) (h : History) : Type 0 where
   pub bytes : Bytes (e .left)
   pub accepted : Accepted (e .left)
   -- it reads as the history says
-  pub agrees : Agrees (e .left) (step h (isFull e) (e .call))
+  pub agrees : Agrees (e .left) (step h (is18 e) (e .call))
   -- the answers agree
-  pub told : toldBy (e .given) ≡ tells h (isFull e) (asked image (e .call)) (e .call)
+  pub told : toldBy (e .given) ≡ tells h (is18 e) (asked image (e .call)) (e .call)
   -- only the named bytes differ
   pub kept : OnlyNamed (e .call) image (e .left)
   -- a refused call and one that only reads change nothing
@@ -473,7 +473,7 @@ pub record InStep (e : Event) (image : List ℕ) (h : History) : Type 0 where
 -- every event of the list keeps step with the history
 unfoldable pub Holds : List ℕ → History → List Event → Type 0
 Holds image h [] = Unit
-Holds image h (e ∷ events) = InStep e image h × Holds (e .left) (step h (isFull e) (e .call)) events
+Holds image h (e ∷ events) = InStep e image h × Holds (e .left) (step h (is18 e) (e .call)) events
 
 -- For every list of calls from an accepted image, refused ones included: the history starts from what the image reads as, and
 -- every event keeps step with it.

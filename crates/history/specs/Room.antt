@@ -3,19 +3,13 @@ use Prim.Native.Nat.{ℕ, _+_, _<_}
 use mathlib.Core.Path.{_≡_}
 use mathlib.Core.List.{List}
 use lib.ListN.{length}
-use Rattle.model.specs.Facts.{factsOf, N, A, freeCount}
-use Rattle.model.specs.Directory.{forkOf, blockCount}
+use Rattle.model.specs.Facts.{factsOf, N, freeCount}
+use Rattle.model.specs.Directory.{forkOf}
 use Rattle.model.specs.Check.{Accepted}
-use Rattle.model.specs.Calls.{Answer, Does, needed, grown, entryNamed}
+use Rattle.model.specs.Calls.{Answer, Does, newBlocks, entryNamed}
 use Rattle.model.specs.Calls.Call.{write}
 use Rattle.history.specs.History.{blocksOf, filesIn}
 use Rattle.model.specs.declared.Fork.{Fork}
-
--- the new blocks that a write of n bytes at o needs
-abbrev pub newBlocks : List ℕ → List ℕ → Fork → ℕ → ℕ → ℕ
-newBlocks image name fork o n =
-    let g = forkOf fork (entryNamed name image) in
-    needed (A (factsOf image)) (grown (g .logical) o n) (blockCount (A (factsOf image)) g)
 
 -- A write is refused for room only when its new blocks exceed the free blocks; and on every accepted image free blocks and all
 -- forks' blocks together are N.
@@ -23,5 +17,5 @@ unfoldable pub Room : Type 0
 Room =
     ((image name : List ℕ) (fork : Fork) (offset : ℕ) (bytes : List ℕ) (changed : ℕ) (given : Answer) (left : List ℕ)
     → Accepted image → Does (write name fork offset bytes changed) image given left → given .number ≡ 17
-    → freeCount (factsOf image) < newBlocks image name fork offset (length bytes))
+    → freeCount (factsOf image) < newBlocks (factsOf image) (forkOf fork (entryNamed name image)) offset (length bytes))
     × ((image : List ℕ) → Accepted image → freeCount (factsOf image) + blocksOf (filesIn image) ≡ N (factsOf image))

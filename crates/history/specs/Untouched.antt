@@ -9,7 +9,7 @@ use Rattle.model.specs.Calls.{nameOf}
 use Rattle.history.specs.History.{File, Event, Run, changes}
 use Rattle.history.specs.Among.{HasFile, lastImage}
 
--- no create, write, cut or delete of the list is given this name
+-- no call of the list that changes the image is given this name
 unfoldable pub NoneNames : List ℕ → List Event → Type 0
 NoneNames name [] = Unit {0}
 NoneNames name (e ∷ events) = ((changes (e .call) && sameName (nameOf (e .call)) name) ≡ false) × NoneNames name events

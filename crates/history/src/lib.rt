@@ -15,8 +15,8 @@ pub fn every_run()
 
 // What follows from that for the auditor.
 
-// After any list of calls, a file that no create, write, cut or delete was given the name of is what it was: its bytes, its
-// dates and all the rest.
+// After any list of calls, a file that no call that changes the image was given the name of is what it was: its bytes,
+// its dates and all the rest.
 pub fn untouched()
     ensures { λ _. ⌜ Untouched ⌝ }
 {}

@@ -23,7 +23,7 @@ use Rattle.laws.proofs.Reorder.{first-found, first-none}
 use Rattle.laws.proofs.Sound.{Each}
 use Rattle.laws.proofs.MapChecks.{MapPasses, sound-passes}
 use Rattle.laws.proofs.MapSteps.{Area, sound-area, fork-lengths}
-use Rattle.laws.proofs.DirectorySteps.{Readable, readable}
+use Rattle.laws.proofs.DirectorySteps.{ReadableDirectory, readable}
 
 -- ---- forks
 
@@ -52,7 +52,7 @@ fork-place (e ∷ es) (suc i) l fork = let r = fork-place es i (omega arith) for
 
 -- ---- an accepted image
 
-pub readable-of : (image : List ℕ) → Accepted image → Readable image
+pub readable-of : (image : List ℕ) → Accepted image → ReadableDirectory image
 readable-of image acc = readable image (accepted-passes image acc)
 
 pub area : (image : List ℕ) → Accepted image → Area (S (factsOf image)) (A (factsOf image)) (N (factsOf image)) image

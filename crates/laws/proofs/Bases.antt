@@ -7,7 +7,7 @@ use mathlib.Core.Logic.{inl, inr}
 use native.Mathlib.Omega.{arith}
 use lib.ListN.{length}
 use Rattle.model.specs.Lists.{flat}
-use Rattle.model.specs.Bytes.{u16, u32}
+use Rattle.model.specs.Bytes.{bytes16, bytes32}
 use Rattle.model.specs.Facts.{factsOf, dirStart, dirLength, A, S}
 use Rattle.model.specs.Directory.{directoryBlocks}
 use Rattle.model.specs.Check.{Accepted}
@@ -44,15 +44,15 @@ module _ (image : List ℕ) (acc : Accepted image) where
 
   pub alike-files : (n : ℕ) (l : List ℕ) → Alike (S (factsOf image)) (withFiles n l) l
   unfolding withFiles
-  alike-files n l = alike-sets (S (factsOf image)) l 1036 (u16 n) low (inl (omega arith))
+  alike-files n l = alike-sets (S (factsOf image)) l 1036 (bytes16 n) low (inl (omega arith))
 
   pub alike-next : (n : ℕ) (l : List ℕ) → Alike (S (factsOf image)) (withNext n l) l
   unfolding withNext
-  alike-next n l = alike-sets (S (factsOf image)) l 1054 (u32 n) low (inl (omega arith))
+  alike-next n l = alike-sets (S (factsOf image)) l 1054 (bytes32 n) low (inl (omega arith))
 
   pub alike-free : (n : ℕ) (l : List ℕ) → Alike (S (factsOf image)) (withFree n l) l
   unfolding withFree
-  alike-free n l = alike-sets (S (factsOf image)) l 1058 (u16 n) low (inl (omega arith))
+  alike-free n l = alike-sets (S (factsOf image)) l 1058 (bytes16 n) low (inl (omega arith))
 
 -- the directory's blocks after a rewriting, and the stores that follow those of the map and the blocks
 module _ (image : List ℕ) (acc : Accepted image) (name : List ℕ) (fork : Fork) (logical : ℕ) (bs : List ℕ) (changed free : ℕ)

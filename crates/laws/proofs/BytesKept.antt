@@ -9,7 +9,7 @@ use native.Mathlib.Nat.{mul-le-mul-right}
 use lib.ListN.{length, getD, take, drop, length-append, length-take, length-drop}
 use lib.Seq.{sets}
 use Rattle.model.specs.Lists.{any, keep, placeOf, flat, firstOr0, times}
-use Rattle.model.specs.Bytes.{u16, u32, zeros, part, Bytes}
+use Rattle.model.specs.Bytes.{bytes16, bytes32, zeros, part, Bytes}
 use Rattle.model.specs.Facts.{factsOf, factsIn, dirStart, dirLength, N, A, S, nextNumber, freeCount}
 use Rattle.model.specs.Map.{mapEntry, freeBlocks, putChain, putFree}
 use Rattle.model.specs.Directory.{entrySize, endsAt, nextPlace, readAt, entries, readEnd, cutBlocks, directoryBlocks, listing, directory}
@@ -35,7 +35,7 @@ use Rattle.laws.proofs.Octets.{octets-u16, octets-u32, bytes-be32}
 use Rattle.laws.proofs.Octets.{bytes-putChain, bytes-putFree, bytes-putContent, bytes-paste, bytes-sets, octets-sets}
 use Rattle.laws.proofs.Blocks.{cut-count}
 use Rattle.laws.proofs.Reorder.{first-found}
-use Rattle.laws.proofs.Refusals.{MayCreate, MayChange, MayWrite, MayCut}
+use Rattle.laws.proofs.Refusals.{MayCreate, MayChangeFile, MayWrite, MayCut}
 use Rattle.laws.proofs.Acceptance.{sound-fork, map-passes}
 
 -- ---- what holds of each element
@@ -115,8 +115,8 @@ unfolding newEntry
 octets-new number name finder made changed n o f m c l =
     let pad = (51 + length name) % 2 in
     let title = octets-cons (length name) (name ++ zeros pad) l (octets-append name (zeros pad) o (octets-zeros pad)) in
-    let dates = octets-append (u32 made) _ (octets-u32 made m) (octets-append (u32 changed) _ (octets-u32 changed c) title) in
-    let fields = octets-append (u32 number) _ (octets-u32 number n) (octets-append (zeros 20) _ (octets-zeros 20) dates) in
+    let dates = octets-append (bytes32 made) _ (octets-u32 made m) (octets-append (bytes32 changed) _ (octets-u32 changed c) title) in
+    let fields = octets-append (bytes32 number) _ (octets-u32 number n) (octets-append (zeros 20) _ (octets-zeros 20) dates) in
     octets-cons 0x80 _ (omega arith) (octets-cons 0 _ (omega arith) (octets-append finder _ f fields))
 
 -- delete
@@ -149,10 +149,10 @@ octets-fork : (fork : Fork) (a logical : ℕ) (bs : List ℕ) (changed : ℕ) �
     → length bs * a < 4294967296 → changed < 4294967296 → (e : List ℕ) → Octets e → Octets (withFork fork a logical bs changed e)
 unfolding withFork
 octets-fork fork a logical bs changed s l p c e o =
-    let fields = octets-append (u16 (firstOr0 bs)) _ (octets-u16 (firstOr0 bs) s)
-    (octets-append (u32 logical) (u32 (length bs * a)) (octets-u32 logical l) (octets-u32 (length bs * a) p)) in
-    octets-sets (sets e (forkPlace fork) (u16 (firstOr0 bs) ++ (u32 logical ++ u32 (length bs * a)))) 46 (u32 changed)
-    (octets-sets e (forkPlace fork) (u16 (firstOr0 bs) ++ (u32 logical ++ u32 (length bs * a))) o fields) (octets-u32 changed c)
+    let fields = octets-append (bytes16 (firstOr0 bs)) _ (octets-u16 (firstOr0 bs) s)
+    (octets-append (bytes32 logical) (bytes32 (length bs * a)) (octets-u32 logical l) (octets-u32 (length bs * a) p)) in
+    octets-sets (sets e (forkPlace fork) (bytes16 (firstOr0 bs) ++ (bytes32 logical ++ bytes32 (length bs * a)))) 46 (bytes32 changed)
+    (octets-sets e (forkPlace fork) (bytes16 (firstOr0 bs) ++ (bytes32 logical ++ bytes32 (length bs * a))) o fields) (octets-u32 changed c)
 
 -- ---- the image with other directory blocks, and other counts
 
@@ -162,15 +162,15 @@ directory-kept f image bs h o = bytes-paste image (512 * dirStart f .0) (flat bs
 
 files-kept : (n : ℕ) (image : List ℕ) → n < 65536 → Bytes image → Bytes (withFiles n image)
 unfolding withFiles
-files-kept n image l h = bytes-sets image 1036 (u16 n) h (bytes (u16 n) (octets-u16 n l))
+files-kept n image l h = bytes-sets image 1036 (bytes16 n) h (bytes (bytes16 n) (octets-u16 n l))
 
 next-kept : (n : ℕ) (image : List ℕ) → n < 4294967296 → Bytes image → Bytes (withNext n image)
 unfolding withNext
-next-kept n image l h = bytes-sets image 1054 (u32 n) h (bytes (u32 n) (octets-u32 n l))
+next-kept n image l h = bytes-sets image 1054 (bytes32 n) h (bytes (bytes32 n) (octets-u32 n l))
 
 free-kept : (n : ℕ) (image : List ℕ) → n < 65536 → Bytes image → Bytes (withFree n image)
 unfolding withFree
-free-kept n image l h = bytes-sets image 1058 (u16 n) h (bytes (u16 n) (octets-u16 n l))
+free-kept n image l h = bytes-sets image 1058 (bytes16 n) h (bytes (bytes16 n) (octets-u16 n l))
 
 -- ---- how large the numbers are
 
@@ -346,7 +346,7 @@ shortened-bytes image acc h name fork n changed fits may =
     (omega (arith, may .within, named-holds image acc name found fork, size-fits image acc (length old) (omega arith)))
     (fits .2) (rw length-drop (omega arith))
 
-pub deleted-bytes : (image : List ℕ) → Accepted image → Bytes image → (name : List ℕ) → Fits (delete name) → MayChange image name
+pub deleted-bytes : (image : List ℕ) → Accepted image → Bytes image → (name : List ℕ) → Fits (delete name) → MayChangeFile image name
     → Bytes (change (delete name) image)
 unfolding change deleted
 deleted-bytes image acc h name fits may =

@@ -5,8 +5,8 @@ use mathlib.Core.Bool.{Bool, true, false, cond}
 use mathlib.Core.List.{List}
 use native.Mathlib.Omega.{arith}
 use borrow.Author.Tests.{eq-eqb, ne-eqb}
-use Rattle.model.specs.Bytes.{Bytes, firstOf}
-use Rattle.model.specs.Check.{verdict}
+use Rattle.model.specs.Bytes.{Bytes}
+use Rattle.model.specs.Check.{firstOf, verdict}
 use Rattle.model.specs.Calls.{Call, nameOf, forkGiven, refuses, knownIn, refusal, change, only, reply, lent, answer, after, Fits, Does}
 
 first-zero : (a b : ℕ) → a ≡ 0 → firstOf a b ≡ b

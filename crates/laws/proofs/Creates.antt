@@ -15,11 +15,11 @@ use Rattle.model.specs.declared.ForkFacts.{ForkFacts}
 use Rattle.model.specs.declared.Fork.the-variants.{Data, Resource}
 use Rattle.laws.proofs.MapChecks.{MapPasses}
 use Rattle.laws.proofs.Alike.{Alike, alike-trans}
-use Rattle.laws.proofs.MapSteps.{blankFork, Changed, create-changed}
+use Rattle.laws.proofs.MapSteps.{blankFork, ForksChanged, create-changed}
 use Rattle.laws.proofs.Entry.{new-fork, new-sound}
 use Rattle.laws.proofs.Blocks.{clean-whole, placed-stays, Inserted}
 use Rattle.laws.proofs.Image.{blocks-count}
-use Rattle.laws.proofs.DirectorySteps.{Stepped, clean-now, created-inserted, created-step}
+use Rattle.laws.proofs.DirectorySteps.{DirectoryStored, clean-now, created-inserted, created-step}
 use Rattle.laws.proofs.Refusals.{MayCreate}
 use Rattle.laws.proofs.Acceptance.{area, map-passes, forks-append, accepted-from, readable-of}
 use Rattle.laws.proofs.Bases.{alike-directory, alike-files, alike-next}
@@ -47,7 +47,7 @@ module _ (image : List ℕ) (acc : Accepted image) (name finder : List ℕ) (mad
   inserted = created-inserted image (readable-of image acc) name finder made changed whole (m .title .some) (m .room)
 
   -- what the stores of the directory and of the counts do
-  pub step : Stepped image image (listing newBlocks) (f .files + 1) (nextNumber f + 1) (freeCount f) left
+  pub step : DirectoryStored image image (listing newBlocks) (f .files + 1) (nextNumber f + 1) (freeCount f) left
   step = created-step image (readable-of image acc) name finder made changed whole (m .title .some) (m .room) (m .fresh)
 
   alike : Alike (S f) left image
@@ -72,7 +72,7 @@ module _ (image : List ℕ) (acc : Accepted image) (name finder : List ℕ) (mad
       subst (MapPasses (mapEntry image) (N f) (A f) (freeCount f)) split (map-passes image acc)
 
   -- the forks and their bytes
-  pub map-changed : Changed (S f) (A f) (N f) (freeCount f) image left before (blankFork ∷ blankFork ∷ []) beyond
+  pub map-changed : ForksChanged (S f) (A f) (N f) (freeCount f) image left before (blankFork ∷ blankFork ∷ []) beyond
   map-changed = create-changed (S f) (A f) (N f) (freeCount f) image (area image acc) before beyond passes left alike
 
   forks-left : forksIn (listing newBlocks) ≡ before ++ (blankFork ∷ blankFork ∷ beyond)

@@ -17,17 +17,17 @@ use Rattle.model.specs.declared.Fork.the-variants.{Data, Resource}
 use Rattle.laws.proofs.Reorder.{Alone}
 use Rattle.laws.proofs.MapChecks.{MapPasses}
 use Rattle.laws.proofs.Alike.{Alike, alike-trans}
-use Rattle.laws.proofs.MapSteps.{bothBlocks, Framed, Changed, delete-frame, delete-changed}
+use Rattle.laws.proofs.MapSteps.{bothBlocks, Framed, ForksChanged, delete-frame, delete-changed}
 use Rattle.laws.proofs.Blocks.{clean-whole, removed-stays}
 use Rattle.laws.proofs.Kept.{named-keep}
 use Rattle.laws.proofs.Image.{blocks-count}
-use Rattle.laws.proofs.DirectorySteps.{Stepped, clean-now, deleted-step}
-use Rattle.laws.proofs.Refusals.{MayChange}
+use Rattle.laws.proofs.DirectorySteps.{DirectoryStored, clean-now, deleted-step}
+use Rattle.laws.proofs.Refusals.{MayChangeFile}
 use Rattle.laws.proofs.Acceptance.{area, forks-append, accepted-from, readable-of}
 use Rattle.laws.proofs.Bases.{based, alike-directory, alike-files, alike-free}
 use Rattle.laws.proofs.TheEntry.{it-alone, theEntry, the-entry, passes-there}
 
-module _ (image : List ℕ) (acc : Accepted image) (name : List ℕ) (m : MayChange image name) where
+module _ (image : List ℕ) (acc : Accepted image) (name : List ℕ) (m : MayChangeFile image name) where
   abbrev f : VolumeFacts
   f = factsOf image
 
@@ -77,7 +77,7 @@ module _ (image : List ℕ) (acc : Accepted image) (name : List ℕ) (m : MayCha
   pub frame : Framed (S f) (A f) freed image base
   frame = delete-frame (S f) (A f) (N f) (freeCount f) image (area image acc) before beyond (forkOf Data e) (forkOf Resource e) passes
 
-  pub step : Stepped image base rest (f .files - 1) (nextNumber f) free left
+  pub step : DirectoryStored image base rest (f .files - 1) (nextNumber f) free left
   step = deleted-step image (readable-of image acc) name there e (based image acc freed base frame)
 
   abbrev newBlocks : List (List ℕ)
@@ -94,7 +94,7 @@ module _ (image : List ℕ) (acc : Accepted image) (name : List ℕ) (m : MayCha
       (alike-directory image acc base newBlocks (frame .size) (clean-whole newBlocks (st .clean)) (st .count ∙ blocks-count f image (r .within))))
 
   -- the forks and their bytes
-  pub map-changed : Changed (S f) (A f) (N f) free image left before [] beyond
+  pub map-changed : ForksChanged (S f) (A f) (N f) free image left before [] beyond
   map-changed = delete-changed (S f) (A f) (N f) (freeCount f) image (area image acc) before beyond (forkOf Data e) (forkOf Resource e) passes left alike
 
   pub listed : rest ≡ o .before ++ o .behind

@@ -21,7 +21,7 @@ use Rattle.model.specs.declared.ForkFacts.{ForkFacts}
 use Rattle.model.specs.declared.Fork.{Fork}
 use Rattle.model.specs.declared.Fork.the-variants.{Data, Resource}
 use Rattle.model.proofs.Lists.{and-true}
-use Rattle.model.proofs.Check.{Passes, sound-facts}
+use Rattle.model.proofs.Check.{PassesAll, sound-facts}
 use Rattle.laws.proofs.Reorder.{Alone}
 use Rattle.laws.proofs.Block.{sound, Keeps}
 use Rattle.laws.proofs.Entry.{new-length, new-sound, new-number, new-name, fork-keeps}
@@ -33,14 +33,14 @@ use Rattle.laws.proofs.Image.{facts-same, blocks-bytes, blocks-count, b
 use Rattle.laws.proofs.Image.{delete-changed, differs-last, one-half, files-half, next-half, free-half}
 
 -- what the checks say of the directory
-pub record Readable (image : List ℕ) : Type 0 where
+pub record ReadableDirectory (image : List ℕ) : Type 0 where
   pub behind : 4 ≤ dirStart (factsOf image) .0
   pub within : 512 * dirStart (factsOf image) .0 + 512 * dirLength (factsOf image) ≤ length image
   pub numbered : 1 ≤ nextNumber (factsOf image)
   pub pass6 : fires6 (directory image) ≡ false
   pub pass7 : fires7 (factsOf image .files) (nextNumber (factsOf image)) (directory image) ≡ false
 
-pub readable : (image : List ℕ) → Passes image → Readable image
+pub readable : (image : List ℕ) → PassesAll image → ReadableDirectory image
 readable image p =
     let s = sound-facts (factsOf image) (length image) (p .pass1) (p .pass2) (p .pass3) (p .pass4) in
     record {
@@ -67,7 +67,7 @@ pub based-bytes : (image base : List ℕ) → length base ≡ length image → (
 based-bytes image base l p q = record { long = l; facts = facts-same base image l p; blocks = blocks-bytes (factsOf image) base image l q }
 
 -- after is base with the entries es and these counts, and no other byte changed but in one directory block
-pub record Stepped (image base : List ℕ) (es : List (List ℕ)) (files next free : ℕ) (after : List ℕ) : Type 0 where
+pub record DirectoryStored (image base : List ℕ) (es : List (List ℕ)) (files next free : ℕ) (after : List ℕ) : Type 0 where
   pub long : length after ≡ length image
   pub facts : factsOf after ≡ withCounts (factsOf image) files next free
   pub entries : directory after ≡ es
@@ -80,7 +80,7 @@ pub record Stepped (image base : List ℕ) (es : List (List ℕ)) (files next fr
   pub last : d < dirStart (factsOf image) .0 + dirLength (factsOf image)
   pub kept : (h : ℕ) → (Within (512 * d) 512 h → ⊥) → (Within 1036 2 h → ⊥) → (Within 1054 4 h → ⊥) → (Within 1058 2 h → ⊥) → half after h ≡ half base h
 
-module _ (image : List ℕ) (r : Readable image) where
+module _ (image : List ℕ) (r : ReadableDirectory image) where
   abbrev f : VolumeFacts
   f = factsOf image
 
@@ -112,7 +112,7 @@ module _ (image : List ℕ) (r : Readable image) where
     stepped : (es : List (List ℕ)) (files next free : ℕ) (after : List ℕ) → Changed f base bs files next free after → listing bs ≡ es
         → (fires6 es ≡ false) × (fires7 files next es ≡ false)
         → ((h : ℕ) → (Within 1036 2 h → ⊥) → (Within 1054 4 h → ⊥) → (Within 1058 2 h → ⊥) → half after h ≡ half (withDirectory f base bs) h)
-        → Stepped image base es files next free after
+        → DirectoryStored image base es files next free after
     stepped es files next free after c l p k = record {
       long = c .long ∙ b .long;
       facts = c .facts;
@@ -134,7 +134,7 @@ module _ (image : List ℕ) (r : Readable image) where
     create-inserted = placed-inserted e blocks ok clean-now room
 
     pub create-step : numberIn e ≡ nextNumber (factsOf image) → any (named (nameIn e)) (directory image) ≡ false
-        → Stepped image image (listing (placed e (directoryBlocks (factsOf image) image))) (factsOf image .files + 1) (nextNumber (factsOf image) + 1)
+        → DirectoryStored image image (listing (placed e (directoryBlocks (factsOf image) image))) (factsOf image .files + 1) (nextNumber (factsOf image) + 1)
         (freeCount (factsOf image))
         (created (factsOf image) image e)
     unfolding created
@@ -153,7 +153,7 @@ module _ (image : List ℕ) (r : Readable image) where
 
   module _ (base : List ℕ) (b : Based image base) (name : List ℕ) (h : any (named name) (directory image) ≡ true) (free : ℕ) where
     -- delete
-    pub delete-step : Stepped image base (keep (λ e. not (named name e)) (directory image)) (factsOf image .files - 1) (nextNumber (factsOf image)) free
+    pub delete-step : DirectoryStored image base (keep (λ e. not (named name e)) (directory image)) (factsOf image .files - 1) (nextNumber (factsOf image)) free
         (withFree free (withFiles (factsOf image .files - 1) (withDirectory (factsOf image) base (removed name (directoryBlocks (factsOf image) image)))))
     unfolding directory
     delete-step =
@@ -169,7 +169,7 @@ module _ (image : List ℕ) (r : Readable image) where
 
     -- write and cut
     pub rewrite-step : (g : List ℕ → List ℕ) → Keeps g
-        → Stepped image base (map (onNamed name g) (directory image)) (factsOf image .files) (nextNumber (factsOf image)) free
+        → DirectoryStored image base (map (onNamed name g) (directory image)) (factsOf image .files) (nextNumber (factsOf image)) free
         (withFree free (withDirectory (factsOf image) base (rewritten name g (directoryBlocks (factsOf image) image))))
     unfolding directory
     rewrite-step g k =
@@ -217,9 +217,9 @@ cutBase image n g = putFree (putChain image (cutKept image n g)) (cutFreed image
 abbrev pub deleteBase : List ℕ → List ℕ → List ℕ
 deleteBase image e = putFree image (deleteFreed image e)
 
-module _ (image : List ℕ) (r : Readable image) (name : List ℕ) (h : any (named name) (directory image) ≡ true) where
+module _ (image : List ℕ) (r : ReadableDirectory image) (name : List ℕ) (h : any (named name) (directory image) ≡ true) where
   pub written-step : (fork : Fork) (o : ℕ) (xs : List ℕ) (changed : ℕ) (g : ForkFacts) → Based image (writeBase image o xs g)
-      → Stepped image (writeBase image o xs g)
+      → DirectoryStored image (writeBase image o xs g)
       (map (onNamed name (withFork fork (A (factsOf image)) (writeLogical o xs g) (writeAll image o xs g) changed)) (directory image))
       (factsOf image .files) (nextNumber (factsOf image)) (freeCount (factsOf image) - writeNew image o xs g)
       (written (factsOf image) image name fork o xs changed g)
@@ -230,7 +230,7 @@ module _ (image : List ℕ) (r : Readable image) (name : List ℕ) (h : any (nam
       (fork-keeps fork (A (factsOf image)) (writeLogical o xs g) (writeAll image o xs g) changed)
 
   pub shortened-step : (fork : Fork) (n changed : ℕ) (g : ForkFacts) → Based image (cutBase image n g)
-      → Stepped image (cutBase image n g)
+      → DirectoryStored image (cutBase image n g)
       (map (onNamed name (withFork fork (A (factsOf image)) n (cutKept image n g) changed)) (directory image))
       (factsOf image .files) (nextNumber (factsOf image)) (freeCount (factsOf image) + length (cutFreed image n g))
       (shortened (factsOf image) image name fork n changed g)
@@ -241,14 +241,14 @@ module _ (image : List ℕ) (r : Readable image) (name : List ℕ) (h : any (nam
       (fork-keeps fork (A (factsOf image)) n (cutKept image n g) changed)
 
   pub deleted-step : (e : List ℕ) → Based image (deleteBase image e)
-      → Stepped image (deleteBase image e) (keep (λ e. not (named name e)) (directory image)) (factsOf image .files - 1) (nextNumber (factsOf image))
+      → DirectoryStored image (deleteBase image e) (keep (λ e. not (named name e)) (directory image)) (factsOf image .files - 1) (nextNumber (factsOf image))
       (freeCount (factsOf image) + length (deleteFreed image e))
       (deleted (factsOf image) image name e)
   unfolding deleted
   deleted-step e b = delete-step image r (deleteBase image e) b name h (freeCount (factsOf image) + length (deleteFreed image e))
 
 -- create, as it is called
-module _ (image : List ℕ) (r : Readable image) (name finder : List ℕ) (made changed : ℕ) (whole : length finder ≡ 16) (some : 1 ≤ length name)
+module _ (image : List ℕ) (r : ReadableDirectory image) (name finder : List ℕ) (made changed : ℕ) (whole : length finder ≡ 16) (some : 1 ≤ length name)
     (room : any (hasRoom (padded (51 + length name))) (directoryBlocks (factsOf image) image) ≡ true) where
   abbrev new : List ℕ
   new = newEntry (nextNumber (factsOf image)) name finder made changed
@@ -261,7 +261,7 @@ module _ (image : List ℕ) (r : Readable image) (name finder : List ℕ) (made 
   created-inserted = create-inserted image r new (new-sound (nextNumber (factsOf image)) name finder made changed whole some) has-room
 
   pub created-step : any (named name) (directory image) ≡ false
-      → Stepped image image (listing (placed (newEntry (nextNumber (factsOf image)) name finder made changed) (directoryBlocks (factsOf image) image)))
+      → DirectoryStored image image (listing (placed (newEntry (nextNumber (factsOf image)) name finder made changed) (directoryBlocks (factsOf image) image)))
       (factsOf image .files + 1) (nextNumber (factsOf image) + 1) (freeCount (factsOf image))
       (created (factsOf image) image (newEntry (nextNumber (factsOf image)) name finder made changed))
   created-step u =

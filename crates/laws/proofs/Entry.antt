@@ -8,7 +8,7 @@ use lib.ListN.{length, drop, length-append, length-replicate}
 use lib.Seq.{sets, length-sets, take-at, take-append-seam, getD-drop}
 use borrow.Author.Tests.{eq-eqb, lt-ltb}
 use Rattle.model.specs.Lists.{firstOr0}
-use Rattle.model.specs.Bytes.{byte, be16, be32, u16, u32, zeros}
+use Rattle.model.specs.Bytes.{byte, be16, be32, bytes16, bytes32, zeros}
 use Rattle.model.specs.Directory.{padded, entrySize, inUse, numberIn, nameIn, finderIn, forkIn, forkPlace, forkOf, named}
 use Rattle.model.specs.Check.{goodEntry}
 use Rattle.model.specs.Calls.{newEntry, withFork}
@@ -25,7 +25,7 @@ module _ (number : ℕ) (name finder : List ℕ) (created changed : ℕ) (f : le
   new = newEntry number name finder created changed
 
   abbrev behind : List ℕ
-  behind = u32 number ++ (zeros 20 ++ (u32 created ++ (u32 changed ++ (length name ∷ (name ++ zeros ((51 + length name) % 2))))))
+  behind = bytes32 number ++ (zeros 20 ++ (bytes32 created ++ (bytes32 changed ++ (length name ∷ (name ++ zeros ((51 + length name) % 2))))))
 
   pub new-flags : byte new 0 ≡ 0x80
   unfolding newEntry
@@ -120,7 +120,7 @@ place-high Resource = omega arith
 
 module _ (fork : Fork) (a logical : ℕ) (bs : List ℕ) (changed : ℕ) where
   abbrev fields : List ℕ
-  fields = u16 (firstOr0 bs) ++ (u32 logical ++ u32 (length bs * a))
+  fields = bytes16 (firstOr0 bs) ++ (bytes32 logical ++ bytes32 (length bs * a))
 
   abbrev stored : List ℕ → List ℕ
   stored = withFork fork a logical bs changed
@@ -129,24 +129,24 @@ module _ (fork : Fork) (a logical : ℕ) (bs : List ℕ) (changed : ℕ) where
   pub fork-before : (e : List ℕ) (j : ℕ) → j < 22 → byte (stored e) j ≡ byte e j
   unfolding withFork
   fork-before e j h =
-      sets-before (u32 changed) (sets e (forkPlace fork) fields) 46 j (omega arith)
+      sets-before (bytes32 changed) (sets e (forkPlace fork) fields) 46 j (omega arith)
       ∙ sets-before fields e (forkPlace fork) j (omega (arith, place-low fork))
 
   pub fork-between : (e : List ℕ) (j : ℕ) → 42 ≤ j → j < 46 → byte (stored e) j ≡ byte e j
   unfolding withFork
   fork-between e j l h =
-      sets-before (u32 changed) (sets e (forkPlace fork) fields) 46 j (omega arith)
+      sets-before (bytes32 changed) (sets e (forkPlace fork) fields) 46 j (omega arith)
       ∙ sets-behind fields e (forkPlace fork) j (omega (arith, place-high fork))
 
   pub fork-behind : (e : List ℕ) (j : ℕ) → 50 ≤ j → byte (stored e) j ≡ byte e j
   unfolding withFork
   fork-behind e j h =
-      sets-behind (u32 changed) (sets e (forkPlace fork) fields) 46 j (omega arith)
+      sets-behind (bytes32 changed) (sets e (forkPlace fork) fields) 46 j (omega arith)
       ∙ sets-behind fields e (forkPlace fork) j (omega (arith, place-high fork))
 
   pub fork-length : (e : List ℕ) → length (stored e) ≡ length e
   unfolding withFork
-  fork-length e = length-sets (sets e (forkPlace fork) fields) 46 (u32 changed) ∙ length-sets e (forkPlace fork) fields
+  fork-length e = length-sets (sets e (forkPlace fork) fields) 46 (bytes32 changed) ∙ length-sets e (forkPlace fork) fields
 
   pub fork-flags : (e : List ℕ) → byte (stored e) 0 ≡ byte e 0
   fork-flags e = fork-before e 0 (omega arith)
@@ -177,7 +177,7 @@ module _ (fork : Fork) (a logical : ℕ) (bs : List ℕ) (changed : ℕ) where
   unfolding finderIn withFork
   fork-finder e =
       sym (drop-take-add 2 16 (stored e))
-      ∙ ap (drop 2) (take-sets (u32 changed) (sets e (forkPlace fork) fields) 46 18 (omega arith)
+      ∙ ap (drop 2) (take-sets (bytes32 changed) (sets e (forkPlace fork) fields) 46 18 (omega arith)
       ∙ take-sets fields e (forkPlace fork) 18 (omega (arith, place-low fork)))
       ∙ drop-take-add 2 16 e
 
@@ -187,7 +187,7 @@ module _ (fork : Fork) (a logical : ℕ) (bs : List ℕ) (changed : ℕ) where
   fork-text : (e : List ℕ) → drop 51 (stored e) ≡ drop 51 e
   unfolding withFork
   fork-text e =
-      drop-sets (u32 changed) (sets e (forkPlace fork) fields) 46 51 (omega arith)
+      drop-sets (bytes32 changed) (sets e (forkPlace fork) fields) 46 51 (omega arith)
       ∙ drop-sets fields e (forkPlace fork) 51 (omega (arith, place-high fork))
 
   pub fork-name : (e : List ℕ) → nameIn (stored e) ≡ nameIn e
@@ -210,7 +210,7 @@ module _ (fork : Fork) (a logical : ℕ) (bs : List ℕ) (changed : ℕ) where
   unfolding withFork
   fork-in e k h l =
       getD-drop (forkPlace fork) (stored e) k 0
-      ∙ sets-before (u32 changed) (sets e (forkPlace fork) fields) 46 (forkPlace fork + k) (omega (arith, place-high fork))
+      ∙ sets-before (bytes32 changed) (sets e (forkPlace fork) fields) 46 (forkPlace fork + k) (omega (arith, place-high fork))
       ∙ sets-in fields e (forkPlace fork) k (omega (arith, place-high fork)) (omega arith)
 
   pub fork-fields : (e : List ℕ) → 50 ≤ length e
@@ -227,7 +227,7 @@ module _ (a logical : ℕ) (bs : List ℕ) (changed : ℕ) where
   other-resource e =
       fork-same (drop 32 (withFork Data a logical bs changed e)) (drop 32 e)
       (λ k h. getD-drop 32 (withFork Data a logical bs changed e) k 0
-      ∙ sets-before (u32 changed) (sets e 22 (fields Data a logical bs changed)) 46 (32 + k) (omega arith)
+      ∙ sets-before (bytes32 changed) (sets e 22 (fields Data a logical bs changed)) 46 (32 + k) (omega arith)
       ∙ sets-behind (fields Data a logical bs changed) e 22 (32 + k) (omega arith)
       ∙ sym (getD-drop 32 e k 0))
 
@@ -236,7 +236,7 @@ module _ (a logical : ℕ) (bs : List ℕ) (changed : ℕ) where
   other-data e =
       fork-same (drop 22 (withFork Resource a logical bs changed e)) (drop 22 e)
       (λ k h. getD-drop 22 (withFork Resource a logical bs changed e) k 0
-      ∙ sets-before (u32 changed) (sets e 32 (fields Resource a logical bs changed)) 46 (22 + k) (omega arith)
+      ∙ sets-before (bytes32 changed) (sets e 32 (fields Resource a logical bs changed)) 46 (22 + k) (omega arith)
       ∙ sets-before (fields Resource a logical bs changed) e 32 (22 + k) (omega arith)
       ∙ sym (getD-drop 22 e k 0))
 

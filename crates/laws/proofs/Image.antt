@@ -9,7 +9,7 @@ use native.Mathlib.Decide.{decLt, decLe}
 use lib.ListN.{length, take, drop, length-append, length-drop, take-append-drop}
 use lib.Seq.{sets, paste, length-sets, length-paste, drop-paste, drop-drop, length-take-le, take-all, take-at, drop-at, getD-drop}
 use Rattle.model.specs.Lists.{every, flat}
-use Rattle.model.specs.Bytes.{byte, be16, be32, u16, u32, half}
+use Rattle.model.specs.Bytes.{byte, be16, be32, bytes16, bytes32, half}
 use Rattle.model.specs.Facts.{factsIn, factsOf, dirStart, dirLength, nextNumber, freeCount, withCounts}
 use Rattle.model.specs.Map.{entryByte, mapEntry}
 use Rattle.model.specs.Directory.{cutBlocks, directoryBlocks, listing, directory}
@@ -94,28 +94,28 @@ facts-same a b l at =
 module _ (n : ℕ) (image : List ℕ) where
   pub files-length : length (withFiles n image) ≡ length image
   unfolding withFiles
-  files-length = length-sets image 1036 (u16 n)
+  files-length = length-sets image 1036 (bytes16 n)
 
   pub next-length : length (withNext n image) ≡ length image
   unfolding withNext
-  next-length = length-sets image 1054 (u32 n)
+  next-length = length-sets image 1054 (bytes32 n)
 
   pub free-length : length (withFree n image) ≡ length image
   unfolding withFree
-  free-length = length-sets image 1058 (u16 n)
+  free-length = length-sets image 1058 (bytes16 n)
 
   -- all bytes from 1060 on stay
   pub files-drop : (m : ℕ) → 1060 ≤ m → drop m (withFiles n image) ≡ drop m image
   unfolding withFiles
-  files-drop m h = drop-sets (u16 n) image 1036 m (omega arith)
+  files-drop m h = drop-sets (bytes16 n) image 1036 m (omega arith)
 
   pub next-drop : (m : ℕ) → 1060 ≤ m → drop m (withNext n image) ≡ drop m image
   unfolding withNext
-  next-drop m h = drop-sets (u32 n) image 1054 m (omega arith)
+  next-drop m h = drop-sets (bytes32 n) image 1054 m (omega arith)
 
   pub free-drop : (m : ℕ) → 1060 ≤ m → drop m (withFree n image) ≡ drop m image
   unfolding withFree
-  free-drop m h = drop-sets (u16 n) image 1058 m (omega arith)
+  free-drop m h = drop-sets (bytes16 n) image 1058 m (omega arith)
 
   module _ (long : 1088 ≤ length image) where
     pub files-facts : factsOf (withFiles n image) ≡ withCounts (factsOf image) n (nextNumber (factsOf image)) (freeCount (factsOf image))
@@ -123,31 +123,31 @@ module _ (n : ℕ) (image : List ℕ) where
     files-facts =
         let c = counts-in image in
         counts-facts (withFiles n image) image n (nextNumber (factsOf image)) (freeCount (factsOf image)) files-length
-        (λ j p q. sets-before (u16 n) image 1036 j q) (λ j p q. sets-behind (u16 n) image 1036 j p) (λ j p q. sets-behind (u16 n) image 1036 j (omega arith))
+        (λ j p q. sets-before (bytes16 n) image 1036 j q) (λ j p q. sets-behind (bytes16 n) image 1036 j p) (λ j p q. sets-behind (bytes16 n) image 1036 j (omega arith))
         (be16-sets image 1036 n (omega arith))
-        (be32-same (withFiles n image) image 1054 (λ j p q. sets-behind (u16 n) image 1036 j (omega arith)) ∙ c .1)
-        (be16-same (withFiles n image) image 1058 (λ j p q. sets-behind (u16 n) image 1036 j (omega arith)) ∙ c .2)
+        (be32-same (withFiles n image) image 1054 (λ j p q. sets-behind (bytes16 n) image 1036 j (omega arith)) ∙ c .1)
+        (be16-same (withFiles n image) image 1058 (λ j p q. sets-behind (bytes16 n) image 1036 j (omega arith)) ∙ c .2)
 
     pub next-facts : factsOf (withNext n image) ≡ withCounts (factsOf image) (factsOf image .files) n (freeCount (factsOf image))
     unfolding withNext
     next-facts =
         let c = counts-in image in
         counts-facts (withNext n image) image (factsOf image .files) n (freeCount (factsOf image)) next-length
-        (λ j p q. sets-before (u32 n) image 1054 j (omega arith)) (λ j p q. sets-before (u32 n) image 1054 j q)
-        (λ j p q. sets-behind (u32 n) image 1054 j (omega arith))
-        (be16-same (withNext n image) image 1036 (λ j p q. sets-before (u32 n) image 1054 j (omega arith)) ∙ c .0)
+        (λ j p q. sets-before (bytes32 n) image 1054 j (omega arith)) (λ j p q. sets-before (bytes32 n) image 1054 j q)
+        (λ j p q. sets-behind (bytes32 n) image 1054 j (omega arith))
+        (be16-same (withNext n image) image 1036 (λ j p q. sets-before (bytes32 n) image 1054 j (omega arith)) ∙ c .0)
         (be32-sets image 1054 n (omega arith))
-        (be16-same (withNext n image) image 1058 (λ j p q. sets-behind (u32 n) image 1054 j (omega arith)) ∙ c .2)
+        (be16-same (withNext n image) image 1058 (λ j p q. sets-behind (bytes32 n) image 1054 j (omega arith)) ∙ c .2)
 
     pub free-facts : factsOf (withFree n image) ≡ withCounts (factsOf image) (factsOf image .files) (nextNumber (factsOf image)) n
     unfolding withFree
     free-facts =
         let c = counts-in image in
         counts-facts (withFree n image) image (factsOf image .files) (nextNumber (factsOf image)) n free-length
-        (λ j p q. sets-before (u16 n) image 1058 j (omega arith)) (λ j p q. sets-before (u16 n) image 1058 j (omega arith))
-        (λ j p q. sets-behind (u16 n) image 1058 j (omega arith))
-        (be16-same (withFree n image) image 1036 (λ j p q. sets-before (u16 n) image 1058 j (omega arith)) ∙ c .0)
-        (be32-same (withFree n image) image 1054 (λ j p q. sets-before (u16 n) image 1058 j (omega arith)) ∙ c .1)
+        (λ j p q. sets-before (bytes16 n) image 1058 j (omega arith)) (λ j p q. sets-before (bytes16 n) image 1058 j (omega arith))
+        (λ j p q. sets-behind (bytes16 n) image 1058 j (omega arith))
+        (be16-same (withFree n image) image 1036 (λ j p q. sets-before (bytes16 n) image 1058 j (omega arith)) ∙ c .0)
+        (be32-same (withFree n image) image 1054 (λ j p q. sets-before (bytes16 n) image 1058 j (omega arith)) ∙ c .1)
         (be16-sets image 1058 n (omega arith))
 
 -- ---- what an image reads as, from its bytes
@@ -447,15 +447,15 @@ half-outside-paste d p c k fits enough h o = go (decLt h (2 * p)) (decLe (2 * p 
 module _ (n : ℕ) (image : List ℕ) (h : ℕ) where
   pub files-half : (Within 1036 2 h → ⊥) → half (withFiles n image) h ≡ half image h
   unfolding withFiles
-  files-half o = half-outside-sets (u16 n) image 1036 h o
+  files-half o = half-outside-sets (bytes16 n) image 1036 h o
 
   pub next-half : (Within 1054 4 h → ⊥) → half (withNext n image) h ≡ half image h
   unfolding withNext
-  next-half o = half-outside-sets (u32 n) image 1054 h o
+  next-half o = half-outside-sets (bytes32 n) image 1054 h o
 
   pub free-half : (Within 1058 2 h → ⊥) → half (withFree n image) h ≡ half image h
   unfolding withFree
-  free-half o = half-outside-sets (u16 n) image 1058 h o
+  free-half o = half-outside-sets (bytes16 n) image 1058 h o
 
 module _ (f : VolumeFacts) (image : List ℕ) (within : 512 * dirStart f .0 + 512 * dirLength f ≤ length image) (bs : List (List ℕ))
     (o : OneBlock (directoryBlocks f image) bs) where

@@ -1,5 +1,5 @@
--- Write, cut, delete and create on the map and the blocks: checks 5, 8, 9 and 10 pass again, the forks read back as the history
--- says, and nothing else changes. l″ is the image after the call: as the step leaves the map and the blocks, whatever stands in
+-- Write, cut, delete and create on the map and the blocks: checks 5, 8, 9 and 10 pass again, the forks have the bytes and
+-- blocks that the change gives them, and nothing else changes. l″ is the image after the call: as the step leaves the map and the blocks, whatever stands in
 -- the counts and the directory.
 use mathlib.Core.Path.{_≡_, refl, sym, ap, ap₂, subst, _∙_}
 use mathlib.Core.List.{List, [], _∷_, _++_, map, append-assoc}
@@ -205,7 +205,7 @@ kept s a n l m (g ∷ gs) (bs ∷ bss) pos f x y k =
     (kept s a n l m gs bss pos (f .1) (x .1) (y .1) (λ os c. k os (λ b q. omega (arith, c b q))))
 
 -- the image m passes with the forks now between p and t, and those of p and t have the bytes and the blocks that they have in l
-pub record Changed (s : LogicalBlock) (a n free : ℕ) (l m : List ℕ) (p now t : List ForkFacts) : Type 0 where
+pub record ForksChanged (s : LogicalBlock) (a n free : ℕ) (l m : List ℕ) (p now t : List ForkFacts) : Type 0 where
   pub passes : MapPasses (mapEntry m) n a free (p ++ (now ++ t))
   pub bytesBefore : map (forkBytes s a m) p ≡ map (forkBytes s a l) p
   pub bytesBehind : map (forkBytes s a m) t ≡ map (forkBytes s a l) t
@@ -216,7 +216,7 @@ around : (s : LogicalBlock) (a n free free′ : ℕ) (l l″ : List ℕ) (p m m�
     → MapPasses (mapEntry l) n a free (p ++ (m ++ t))
     → Lists (mapEntry l″) n a free′ (p ++ (m′ ++ t)) (lists (mapEntry l) a p ++ (x ++ lists (mapEntry l) a t))
     → ((os : List ℕ) → ((b : ℕ) → 1 ≤ times b os → 1 ≤ held b (lists (mapEntry l) a p ++ lists (mapEntry l) a t)) → bytesOf s a l″ os ≡ bytesOf s a l os)
-    → Changed s a n free′ l l″ p m′ t
+    → ForksChanged s a n free′ l l″ p m′ t
 around s a n free free′ l l″ p m m′ t x pos h k c =
     let e = mapEntry l in
     let lp = lists e a p in
@@ -366,7 +366,7 @@ module _ (s : LogicalBlock) (a n free : ℕ) (l : List ℕ) (ar : Area s a n l) 
           bytes-putContent s a (putChain l (old ++ new)) (old ++ new) o xs (bytes-putChain n (ar .few) l (old ++ new) w b) c
 
       module _ (l″ : List ℕ) (k : Alike s l″ (afterWrite s a n l g o xs)) where
-        pub write-changed : Changed s a n (free - newCount (mapEntry l) a g o xs) l l″ p
+        pub write-changed : ForksChanged s a n (free - newCount (mapEntry l) a g o xs) l l″ p
             (forkWith a (sizeAfter g o xs) (blocksAfter (mapEntry l) n a g o xs) ∷ []) t
         write-changed =
             around s a n free (free - need) l l″ p (g ∷ []) (forkWith a size (old ++ new) ∷ []) t ((old ++ new) ∷ []) (ar .some) h (write-lists l″ k)
@@ -446,7 +446,7 @@ module _ (s : LogicalBlock) (a n free : ℕ) (l : List ℕ) (ar : Area s a n l) 
         all-kept : (os : List ℕ) → bytesOf s a l″ os ≡ bytesOf s a l os
         all-kept os = alike-bytes s a l″ (putFree (putChain l front) gone) os k ∙ freed-bytes s a n l ar front gone split-in-map os
 
-        pub cut-changed : Changed s a n (free + length (freedBlocks (mapEntry l) a g c)) l l″ p (forkWith a c (keptBlocks (mapEntry l) a g c) ∷ []) t
+        pub cut-changed : ForksChanged s a n (free + length (freedBlocks (mapEntry l) a g c)) l l″ p (forkWith a c (keptBlocks (mapEntry l) a g c) ∷ []) t
         cut-changed =
             around s a n free (free + length gone) l l″ p (g ∷ []) (forkWith a c front ∷ []) t (front ∷ []) (ar .some) h (cut-lists l″ k) (λ os q. all-kept os)
 
@@ -502,7 +502,7 @@ module _ (s : LogicalBlock) (a n free : ℕ) (l : List ℕ) (ar : Area s a n l) 
     delete-bytes b = bytes-putFree l (gs ++ rs) b
 
     pub delete-changed : (l″ : List ℕ) → Alike s l″ (putFree l (bothBlocks (mapEntry l) a g r))
-        → Changed s a n (free + length (bothBlocks (mapEntry l) a g r)) l l″ p [] t
+        → ForksChanged s a n (free + length (bothBlocks (mapEntry l) a g r)) l l″ p [] t
     unfolding Fit flat
     delete-changed l″ k =
         around s a n free (free + length (gs ++ rs)) l l″ p (g ∷ r ∷ []) [] t [] (ar .some) h
@@ -515,7 +515,7 @@ module _ (s : LogicalBlock) (a n free : ℕ) (l : List ℕ) (ar : Area s a n l) 
   -- ---- create of a file with empty forks
 
   module _ (p t : List ForkFacts) (h : MapPasses (mapEntry l) n a free (p ++ t)) (l″ : List ℕ) (k : Alike s l″ l) where
-    pub create-changed : Changed s a n free l l″ p (blankFork ∷ blankFork ∷ []) t
+    pub create-changed : ForksChanged s a n free l l″ p (blankFork ∷ blankFork ∷ []) t
     unfolding Fit flat Each Linked held times firstOr0
     create-changed =
         let none : Fields a blankFork [] = record { start = refl; physical = omega arith; logical = omega arith } in
@@ -534,7 +534,7 @@ module _ (s : LogicalBlock) (a n free : ℕ) (l : List ℕ) (ar : Area s a n l) 
 
   -- ---- stores elsewhere alone
 
-  pub alike-changed : (gs : List ForkFacts) → MapPasses (mapEntry l) n a free gs → (l″ : List ℕ) → Alike s l″ l → Changed s a n free l l″ [] [] gs
+  pub alike-changed : (gs : List ForkFacts) → MapPasses (mapEntry l) n a free gs → (l″ : List ℕ) → Alike s l″ l → ForksChanged s a n free l l″ [] [] gs
   alike-changed gs h l″ k =
       let x = to-lists (mapEntry l) n a free gs h in
       around s a n free free l l″ [] [] [] gs [] (ar .some) h

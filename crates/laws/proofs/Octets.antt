@@ -4,7 +4,7 @@ use Prim.Native.Nat.{ℕ, zero, suc, _+_, _≤_, _<_}
 use native.Mathlib.Omega.{arith}
 use lib.ListN.{length, take, drop, set, take-append-drop}
 use lib.Seq.{sets, paste}
-use Rattle.model.specs.Bytes.{be16, be32, u16, u32, zeros, part, Bytes}
+use Rattle.model.specs.Bytes.{be16, be32, bytes16, bytes32, zeros, part, Bytes}
 use Rattle.model.specs.Map.{setEntry, behind, putChain, putFree}
 use Rattle.model.specs.Calls.{bytesOf, putBlocks, putContent}
 use Rattle.model.specs.declared.LogicalBlock.{LogicalBlock}
@@ -47,11 +47,11 @@ octets-zeros zero = tt
 octets-zeros (suc n) = (omega arith, octets-zeros n)
 
 -- a number that fits is stored as bytes
-pub octets-u16 : (v : ℕ) → v < 65536 → Octets (u16 v)
+pub octets-u16 : (v : ℕ) → v < 65536 → Octets (bytes16 v)
 unfolding Each
 octets-u16 v h = (omega arith, (omega arith, tt))
 
-pub octets-u32 : (v : ℕ) → v < 4294967296 → Octets (u32 v)
+pub octets-u32 : (v : ℕ) → v < 4294967296 → Octets (bytes32 v)
 unfolding Each
 octets-u32 v h = (omega arith, (omega arith, (omega arith, (omega arith, tt))))
 

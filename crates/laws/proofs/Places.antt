@@ -82,7 +82,7 @@ rewritten-stills name g (b ∷ x) c h =
     rw (rewritten-still name g b (c .0) (s .0), rewritten-stills name g x (c .1) (s .1))
 
 -- the block with the name
-record Found (name : List ℕ) (bs : List (List ℕ)) : Type 0 where
+record NamedBlock (name : List ℕ) (bs : List (List ℕ)) : Type 0 where
   pub before : List (List ℕ)
   pub it : List ℕ
   pub behind : List (List ℕ)
@@ -90,7 +90,7 @@ record Found (name : List ℕ) (bs : List (List ℕ)) : Type 0 where
   pub noneBefore : any (λ b. any (named name) (entries b)) before ≡ false
   pub noneBehind : any (λ b. any (named name) (entries b)) behind ≡ false
 
-found : (name : List ℕ) (bs : List (List ℕ)) → distinct sameNames (listing bs) ≡ true → any (named name) (listing bs) ≡ true → Found name bs
+found : (name : List ℕ) (bs : List (List ℕ)) → distinct sameNames (listing bs) ≡ true → any (named name) (listing bs) ≡ true → NamedBlock name bs
 unfolding listing flat
 found name bs d h =
     let a = any-split (λ b. any (named name) (entries b)) bs (sym (any-listing (named name) bs) ∙ h) in

@@ -9,10 +9,10 @@ use lib.ListN.{length}
 use lib.Dec.{eqb, ltb}
 use borrow.Author.Tests.{not-false, eqb-false, eq-eqb, ne-eqb, ltb-false}
 use Rattle.model.specs.Lists.{any}
-use Rattle.model.specs.Bytes.{byte, firstOf}
+use Rattle.model.specs.Bytes.{byte}
 use Rattle.model.specs.Facts.{factsOf, A, nextNumber, freeCount, isLocked}
 use Rattle.model.specs.Directory.{padded, directoryBlocks, directory, forkOf, flagsLock, blockCount, named}
-use Rattle.model.specs.Check.{orElse, verdict, Accepted}
+use Rattle.model.specs.Check.{orElse, firstOf, verdict, Accepted}
 use Rattle.model.specs.Calls.{Call, Known, nameOf, forkGiven, grown, needed, badName, refuses, entryNamed, hasRoom, knownIn, refusal, change, after}
 use Rattle.model.specs.Calls.Call.{create, write, cut, delete}
 use Rattle.model.specs.declared.Fork.{Fork}
@@ -124,14 +124,14 @@ pub record MayCreate (image name : List ℕ) : Type 0 where
   pub room : any (hasRoom (padded (51 + length name))) (directoryBlocks (factsOf image) image) ≡ true
 
 -- write, cut and delete: the file is there, and neither it nor the volume is locked
-pub record MayChange (image name : List ℕ) : Type 0 where
+pub record MayChangeFile (image name : List ℕ) : Type 0 where
   pub unlocked : isLocked (factsOf image) ≡ false
   pub title : GoodName name
   pub exists : any (named name) (directory image) ≡ true
   pub fileUnlocked : flagsLock (byte (entryNamed name image) 0) ≡ false
 
 pub record MayWrite (image name : List ℕ) (fork : Fork) (offset count : ℕ) : Type 0 where
-  pub file : MayChange image name
+  pub file : MayChangeFile image name
   pub within : offset ≤ forkOf fork (entryNamed name image) .logical
   pub room :
       needed (A (factsOf image)) (grown (forkOf fork (entryNamed name image) .logical) offset count)
@@ -139,7 +139,7 @@ pub record MayWrite (image name : List ℕ) (fork : Fork) (offset count : ℕ) :
       ≤ freeCount (factsOf image)
 
 pub record MayCut (image name : List ℕ) (fork : Fork) (size : ℕ) : Type 0 where
-  pub file : MayChange image name
+  pub file : MayChangeFile image name
   pub within : size ≤ forkOf fork (entryNamed name image) .logical
 
 -- the first number is 0 where the answer is
@@ -179,7 +179,7 @@ module _ (image : List ℕ) where
   may-change : (name : List ℕ) (r : ℕ)
       → orElse (isLocked (factsOf image)) 11 (orElse (badName name) 12 (orElse (not (any (named name) (directory image))) 13
       (orElse (flagsLock (byte (entryNamed name image) 0)) 15 r))) ≡ 0
-      → MayChange image name × (r ≡ 0)
+      → MayChangeFile image name × (r ≡ 0)
   may-change name r z =
       let p₁ = else-zero (isLocked (factsOf image)) 10 _ z in
       let p₂ = else-zero (badName name) 11 _ (p₁ .1) in
@@ -207,6 +207,6 @@ module _ (image : List ℕ) where
       let p₅ = else-zero (ltb (g .logical) size) 15 0 (s .1) in
       record { file = s .0; within = ltb-false (g .logical) size (p₅ .0) }
 
-  pub may-delete : (name : List ℕ) → refusal (delete name) image ≡ 0 → MayChange image name
+  pub may-delete : (name : List ℕ) → refusal (delete name) image ≡ 0 → MayChangeFile image name
   unfolding refuses knownIn nameOf forkGiven
   may-delete name z = may-change name 0 (own-zero (delete name) z) .0

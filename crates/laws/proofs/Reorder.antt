@@ -1,5 +1,5 @@
--- Laws of lists that the directory needs: tests under a map, the first that passes a test, the only one that does, files that are
--- the history's in some order, an element that stays in a list, and where an element of a changed list comes from.
+-- Laws of lists that the directory needs: tests under a map, the first that passes a test, the only one that does, the same
+-- elements in another order, an element that stays in a list, and where an element of a changed list comes from.
 use Prim.Native.Nat.{ℕ, zero, suc, _<_}
 use mathlib.Core.Path.{_≡_, refl, sym, ap, _∙_}
 use mathlib.Core.Bool.{Bool, true, false, not, _&&_, _||_, cond}
@@ -146,9 +146,9 @@ module _ {A : Type 0} where
     unfolding any
     alone-any = ap (any p) (o .whole) ∙ rw (any-append p (o .before) (o .it ∷ o .behind), o .noneBefore, o .passes)
 
--- ---- the history
+-- ---- another order
 
--- E an entry of the image, F a file as the history holds it; `tell` and `tells` read a file from an entry, before and after the
+-- E an entry of the image, F a file as it is told; `tell` and `tells` read a file from an entry, before and after the
 -- change
 module _ {E F : Type 0} (tell tells : E → F) (es : List E) {hs : List F} (r : Reordered (map tell es) hs) where
   -- the new entry is somewhere in the image, the new file at the history's end

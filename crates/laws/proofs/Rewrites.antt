@@ -11,10 +11,10 @@ use Rattle.model.specs.Calls.{entryNamed, onNamed, withFork}
 use Rattle.model.specs.declared.VolumeFacts.{VolumeFacts}
 use Rattle.model.specs.declared.Fork.{Fork}
 use Rattle.laws.proofs.Reorder.{Alone}
-use Rattle.laws.proofs.MapSteps.{forkWith, Framed, Changed}
+use Rattle.laws.proofs.MapSteps.{forkWith, Framed, ForksChanged}
 use Rattle.laws.proofs.Entry.{fork-named}
 use Rattle.laws.proofs.Kept.{named-first, named-map}
-use Rattle.laws.proofs.DirectorySteps.{Stepped}
+use Rattle.laws.proofs.DirectorySteps.{DirectoryStored}
 use Rattle.laws.proofs.Acceptance.{accepted-from}
 use Rattle.laws.proofs.TheEntry.{it-alone, theEntry, the-length, around, beyond, forks-stored}
 
@@ -26,10 +26,10 @@ pub record Rewritten (image : List ℕ) (acc : Accepted image) (name : List ℕ)
   pub base : List ℕ
   pub frame : Framed (S (factsOf image)) (A (factsOf image)) touched image base
   -- the stores of the directory and the counts
-  pub step : Stepped image base (map (onNamed name (withFork fork (A (factsOf image)) logical bs changed)) (directory image))
+  pub step : DirectoryStored image base (map (onNamed name (withFork fork (A (factsOf image)) logical bs changed)) (directory image))
       (factsOf image .files) (nextNumber (factsOf image)) free left
   -- the forks and their bytes
-  pub forks : Changed (S (factsOf image)) (A (factsOf image)) (N (factsOf image)) free image left (around image acc name there fork)
+  pub forks : ForksChanged (S (factsOf image)) (A (factsOf image)) (N (factsOf image)) free image left (around image acc name there fork)
       (forkWith (A (factsOf image)) logical bs ∷ []) (beyond image acc name there fork)
 
 module _ {image : List ℕ} {acc : Accepted image} {name : List ℕ} {there : any (named name) (directory image) ≡ true}

@@ -7,7 +7,7 @@ use native.Mathlib.Nat.{add-suc, suc-add, add-zero, zero-add, add-assoc}
 use lib.ListN.{length, set, take, drop, length-set, length-take, length-drop, List·getD-append}
 use lib.Seq.{sets, paste, getD-set-same, getD-set-other, drop-set-lt, take-set-le, getD-append-add, drop-append-add, take-nil, length-take-le, getD-take}
 use lib.Seq.{getD-drop, drop-paste, take-append-le, take-take, ext-getD}
-use Rattle.model.specs.Bytes.{byte, be16, be32, u16, u32, part, half}
+use Rattle.model.specs.Bytes.{byte, be16, be32, bytes16, bytes32, part, half}
 
 -- ---- a run of stores
 
@@ -118,23 +118,23 @@ unfolding be32
 be32-drop n s i = rw (be16-drop n s i, be16-drop n s (i + 2), ← add-assoc n i 2)
 
 -- what is stored is read back
-pub be16-sets : (l : List ℕ) (p v : ℕ) → p + 2 ≤ length l → be16 (sets l p (u16 v)) p ≡ v
+pub be16-sets : (l : List ℕ) (p v : ℕ) → p + 2 ≤ length l → be16 (sets l p (bytes16 v)) p ≡ v
 unfolding be16
 be16-sets l p v h =
-    let a = sets-in (u16 v) l p 0 h (omega arith) in
-    let b = sets-in (u16 v) l p 1 h (omega arith) in
-    let c : byte (sets l p (u16 v)) p ≡ v / 256 = rw add-zero at a in
+    let a = sets-in (bytes16 v) l p 0 h (omega arith) in
+    let b = sets-in (bytes16 v) l p 1 h (omega arith) in
+    let c : byte (sets l p (bytes16 v)) p ≡ v / 256 = rw add-zero at a in
     omega (arith, join16 v)
 
-pub be32-sets : (l : List ℕ) (p v : ℕ) → p + 4 ≤ length l → be32 (sets l p (u32 v)) p ≡ v
+pub be32-sets : (l : List ℕ) (p v : ℕ) → p + 4 ≤ length l → be32 (sets l p (bytes32 v)) p ≡ v
 unfolding be32 be16
 be32-sets l p v h =
-    let a = sets-in (u32 v) l p 0 h (omega arith) in
-    let b = sets-in (u32 v) l p 1 h (omega arith) in
-    let c = sets-in (u32 v) l p 2 h (omega arith) in
-    let d = sets-in (u32 v) l p 3 h (omega arith) in
-    let e : byte (sets l p (u32 v)) p ≡ v / 16777216 = rw add-zero at a in
-    let f : byte (sets l p (u32 v)) (p + 2 + 1) ≡ v % 256 = rw (add-assoc p 2 1) d in
+    let a = sets-in (bytes32 v) l p 0 h (omega arith) in
+    let b = sets-in (bytes32 v) l p 1 h (omega arith) in
+    let c = sets-in (bytes32 v) l p 2 h (omega arith) in
+    let d = sets-in (bytes32 v) l p 3 h (omega arith) in
+    let e : byte (sets l p (bytes32 v)) p ≡ v / 16777216 = rw add-zero at a in
+    let f : byte (sets l p (bytes32 v)) (p + 2 + 1) ≡ v % 256 = rw (add-assoc p 2 1) d in
     rw (e, b, c, f) (join32 v)
 
 -- ---- lists put together

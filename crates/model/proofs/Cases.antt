@@ -5,7 +5,7 @@ use mathlib.Core.List.{List, [], _∷_, _++_}
 use lib.ListN.{take, drop, length, take-append-drop}
 use lib.Seq.{drop-drop}
 use Rattle.model.specs.Lists.{every, any, distinct, keep, first, placeOf, flat, from, times, firstOr0, same}
-use Rattle.model.specs.Bytes.{part, be16, be32, firstOf}
+use Rattle.model.specs.Bytes.{part, be16, be32}
 use Rattle.model.specs.Facts.{factsIn, factsOf, isLocked, noFacts}
 use Rattle.model.specs.Map.{joined, firstByte, secondByte, mapEntry, setEntry, isBlock, sortOf, isBad, runs, chainBlocks, freeBlocks, behind, putChain}
 use Rattle.model.specs.Map.{putFree}
@@ -13,7 +13,7 @@ use Rattle.model.specs.Directory.{padded, entrySize, inUse, endsAt, next
 use Rattle.model.specs.Directory.{numberIn, nameIn, finderIn, forkIn, forkOf, wide, entryIn, noEntry, flagsLock, forksIn, blockCount, forkBlocks}
 use Rattle.model.specs.Directory.{ownedBlocks, fold, folded, sameName, named}
 use Rattle.model.specs.Check.{fires1, fires2, fires3, fires4, fires5, goodEntry, fires6, goodNumber, fires7, emptyFork, fullFork, goodFork, sharesNone}
-use Rattle.model.specs.Check.{fires8, fires9, fires10, from9, from8, from7, from6, from5, from4, from3, from2, verdict}
+use Rattle.model.specs.Check.{firstOf, fires8, fires9, fires10, from9, from8, from7, from6, from5, from4, from3, from2, verdict}
 use Rattle.model.specs.Calls.{nameOf, forkGiven, fewest, grown, needed, badName, refuses, entryNamed, hasRoom, knownIn, refusal, bytesOf, forkBytes}
 use Rattle.model.specs.Calls.{putBlocks, putContent, readCount, copied, filled, newEntry, placed, removedIn, removed, onNamed, rewrittenIn, rewritten}
 use Rattle.model.specs.Calls.{withFork, withDirectory, withFiles, withNext, withFree, created, written, shortened, deleted, change, only, tellsFacts}

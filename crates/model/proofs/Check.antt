@@ -338,7 +338,7 @@ module _ (e : ℕ → ℕ) (n a : ℕ) (gs : List ForkFacts) where
 -- ---- the verdict
 
 -- no check fires
-pub record Passes (image : List ℕ) : Type 0 where
+pub record PassesAll (image : List ℕ) : Type 0 where
   pub pass1 : fires1 (length image) ≡ false
   pub pass2 : fires2 (factsOf image) ≡ false
   pub pass3 : fires3 (factsOf image) (blocksIn image) ≡ false
@@ -356,7 +356,7 @@ else-zero true k r e = absurd (omega arith)
 else-zero false k r e = (refl, e)
 
 module _ (image : List ℕ) where
-  pub verdict-passes : verdict image ≡ 0 → Passes image
+  pub verdict-passes : verdict image ≡ 0 → PassesAll image
   unfolding verdict from2 from3 from4 from5 from6 from7 from8 from9
   verdict-passes h =
       let f = factsOf image in
@@ -386,12 +386,12 @@ module _ (image : List ℕ) where
         pass10 = h₁₀ .0;
       }
 
-  pub passes-verdict : Passes image → verdict image ≡ 0
+  pub passes-verdict : PassesAll image → verdict image ≡ 0
   unfolding verdict from2 from3 from4 from5 from6 from7 from8 from9
   passes-verdict p =
       rw (p .pass1, p .pass2, p .pass3, p .pass4, p .pass5, p .pass6, p .pass7, p .pass8, p .pass9, p .pass10)
 
-  pub passes-accepted : Passes image → Accepted image
+  pub passes-accepted : PassesAll image → Accepted image
   passes-accepted p = record {
     facts = sound-facts (factsOf image) (length image) (p .pass1) (p .pass2) (p .pass3) (p .pass4);
     files = sound-directory (factsOf image) (directory image) (p .pass6) (p .pass7);
@@ -399,7 +399,7 @@ module _ (image : List ℕ) where
         (p .pass5) (p .pass8) (p .pass9) (p .pass10);
   }
 
-  pub accepted-passes : Accepted image → Passes image
+  pub accepted-passes : Accepted image → PassesAll image
   accepted-passes s =
       let f = factsOf image in
       let e = mapEntry image in

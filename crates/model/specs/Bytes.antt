@@ -16,11 +16,11 @@ unfoldable pub be32 : List ℕ → ℕ → ℕ
 be32 s i = be16 s i * 65536 + be16 s (i + 2)
 
 -- a number as its two or four bytes
-abbrev pub u16 : ℕ → List ℕ
-u16 v = (v / 256) ∷ (v % 256) ∷ []
+abbrev pub bytes16 : ℕ → List ℕ
+bytes16 v = (v / 256) ∷ (v % 256) ∷ []
 
-abbrev pub u32 : ℕ → List ℕ
-u32 v = (v / 16777216) ∷ (v / 65536 % 256) ∷ (v / 256 % 256) ∷ (v % 256) ∷ []
+abbrev pub bytes32 : ℕ → List ℕ
+bytes32 v = (v / 16777216) ∷ (v / 65536 % 256) ∷ (v / 256 % 256) ∷ (v % 256) ∷ []
 
 abbrev pub zeros : ℕ → List ℕ
 zeros n = replicate n 0
@@ -44,8 +44,3 @@ overwritten old o xs = take o old ++ (xs ++ drop (o + length xs) old)
 -- each element is a byte
 unfoldable pub Bytes : List ℕ → Type 0
 Bytes l = (i : ℕ) → byte l i < 256
-
--- the first number, unless it is 0; then the second: the first check that fires is the answer
-unfoldable pub firstOf : ℕ → ℕ → ℕ
-firstOf zero b = b
-firstOf (suc a) b = suc a

@@ -1,4 +1,4 @@
--- The nine calls: their arguments, the refusals after 1 to 10, what each answers and what each leaves.
+-- The calls: their arguments, the refusals after 1 to 10, what each answers and what each leaves.
 use Prim.Native.Nat.{ℕ, zero, suc, _+_, _-_, _*_, _/_, _%_, _^_, _<_, min, max}
 use mathlib.Core.Path.{_≡_}
 use mathlib.Core.Bool.{Bool, true, false, _&&_, _||_, not, cond}
@@ -7,12 +7,12 @@ use lib.ListN.{length, getD, take, drop, replicate}
 use lib.Seq.{sets, paste}
 use lib.Dec.{eqb, leb, ltb}
 use Rattle.model.specs.Lists.{any, keep, first, placeOf, flat, firstOr0}
-use Rattle.model.specs.Bytes.{byte, u16, u32, zeros, part, Bytes, firstOf}
+use Rattle.model.specs.Bytes.{byte, bytes16, bytes32, zeros, part, Bytes}
 use Rattle.model.specs.Facts.{factsOf, dirStart, dirLength, N, A, S, nextNumber, freeCount, isLocked, blockByte, noFacts}
 use Rattle.model.specs.Map.{mapEntry, freeBlocks, putChain, putFree}
-use Rattle.model.specs.Directory.{padded, entries, readEnd, directoryBlocks, directory, forkPlace, forkOf, entryIn, noEntry, flagsLock, blockCount}
+use Rattle.model.specs.Directory.{sizeFor, entries, readEnd, directoryBlocks, directory, forkPlace, forkOf, entryIn, noEntry, flagsLock, blockCount}
 use Rattle.model.specs.Directory.{forkBlocks, named}
-use Rattle.model.specs.Check.{orElse, verdict}
+use Rattle.model.specs.Check.{orElse, firstOf, verdict}
 use Rattle.model.specs.declared.VolumeFacts.{VolumeFacts}
 use Rattle.model.specs.declared.DirectoryEntry.{DirectoryEntry}
 use Rattle.model.specs.declared.ForkFacts.{ForkFacts}
@@ -67,6 +67,10 @@ grown logical o n = max logical (o + n)
 unfoldable pub needed : ℕ → ℕ → ℕ → ℕ
 needed a logical blocks = fewest logical a - blocks
 
+-- those of a write of n bytes at o in the fork g
+unfoldable pub newBlocks : VolumeFacts → ForkFacts → ℕ → ℕ → ℕ
+newBlocks f g o n = needed (A f) (grown (g .logical) o n) (blockCount (A f) g)
+
 -- 12: the given name's length is 0 or above 255
 unfoldable pub badName : List ℕ → Bool
 badName name = eqb (length name) 0 || ltb 255 (length name)
@@ -95,7 +99,7 @@ knownIn image name fork =
       size = A f;
       free = freeCount f;
       next = nextNumber f;
-      full = not (any (hasRoom (padded (51 + length name))) (directoryBlocks f image));
+      full = not (any (hasRoom (sizeFor (length name))) (directoryBlocks f image));
     }
 
 -- ---- Fork bytes
@@ -140,7 +144,7 @@ filled es = flat es ++ zeros (512 - length (flat es))
 -- dates as given.
 unfoldable pub newEntry : ℕ → List ℕ → List ℕ → ℕ → ℕ → List ℕ
 newEntry number name finder created changed =
-    0x80 ∷ 0 ∷ (finder ++ (u32 number ++ (zeros 20 ++ (u32 created ++ (u32 changed
+    0x80 ∷ 0 ∷ (finder ++ (bytes32 number ++ (zeros 20 ++ (bytes32 created ++ (bytes32 changed
     ++ (length name ∷ (name ++ zeros ((51 + length name) % 2))))))))
 
 -- It puts an entry after the last one of the first directory block with room.
@@ -171,7 +175,7 @@ rewritten name f bs = map (rewrittenIn name f) bs
 -- length is the fork's block count times A
 unfoldable pub withFork : Fork → ℕ → ℕ → List ℕ → ℕ → List ℕ → List ℕ
 withFork fork a logical bs changed e =
-    sets (sets e (forkPlace fork) (u16 (firstOr0 bs) ++ (u32 logical ++ u32 (length bs * a)))) 46 (u32 changed)
+    sets (sets e (forkPlace fork) (bytes16 (firstOr0 bs) ++ (bytes32 logical ++ bytes32 (length bs * a)))) 46 (bytes32 changed)
 
 -- the image with these directory blocks
 unfoldable pub withDirectory : VolumeFacts → List ℕ → List (List ℕ) → List ℕ
@@ -179,13 +183,13 @@ withDirectory f image bs = paste image (512 * dirStart f .0) (flat bs) (512 * di
 
 -- the image with this number of files, this next file number, this free count
 unfoldable pub withFiles : ℕ → List ℕ → List ℕ
-withFiles n image = sets image 1036 (u16 n)
+withFiles n image = sets image 1036 (bytes16 n)
 
 unfoldable pub withNext : ℕ → List ℕ → List ℕ
-withNext n image = sets image 1054 (u32 n)
+withNext n image = sets image 1054 (bytes32 n)
 
 unfoldable pub withFree : ℕ → List ℕ → List ℕ
-withFree n image = sets image 1058 (u16 n)
+withFree n image = sets image 1058 (bytes16 n)
 
 -- Create. The next file number and the number of files go up by one.
 unfoldable pub created : VolumeFacts → List ℕ → List ℕ → List ℕ

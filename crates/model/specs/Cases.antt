@@ -6,7 +6,7 @@ use mathlib.Core.List.{List, [], _∷_, _++_, map}
 use lib.ListN.{length, take, drop, replicate}
 use lib.Seq.{paste}
 use Rattle.model.specs.Lists.{flat, from}
-use Rattle.model.specs.Bytes.{byte, u16, u32, zeros, part}
+use Rattle.model.specs.Bytes.{byte, bytes16, bytes32, zeros, part}
 use Rattle.model.specs.Facts.{factsOf, blocksIn, noFacts}
 use Rattle.model.specs.Map.{mapEntry, putChain}
 use Rattle.model.specs.Directory.{noEntry}
@@ -33,8 +33,8 @@ pub record Plan : Type 0 where
 unfoldable pub info : Plan → List ℕ
 info p =
     flat
-    ((0xd2 ∷ 0xd7 ∷ zeros 8) ∷ u16 (p .attributes) ∷ u16 (p .files) ∷ u16 4 ∷ u16 (p .dirLength) ∷ u16 5 ∷ u32 512 ∷ u32 0
-    ∷ u16 (4 + p .dirLength) ∷ u32 (p .next) ∷ u16 (p .free) ∷ (4 ∷ 72 ∷ 65 ∷ 76 ∷ 76 ∷ zeros 23) ∷ [])
+    ((0xd2 ∷ 0xd7 ∷ zeros 8) ∷ bytes16 (p .attributes) ∷ bytes16 (p .files) ∷ bytes16 4 ∷ bytes16 (p .dirLength) ∷ bytes16 5 ∷ bytes32 512 ∷ bytes32 0
+    ∷ bytes16 (4 + p .dirLength) ∷ bytes32 (p .next) ∷ bytes16 (p .free) ∷ (4 ∷ 72 ∷ 65 ∷ 76 ∷ 76 ∷ zeros 23) ∷ [])
 
 -- the first n bytes of l with zeros behind it
 abbrev pub upTo : ℕ → List ℕ → List ℕ
@@ -47,10 +47,10 @@ disk p = flat (zeros 1024 ∷ info p ∷ upTo 960 (p .map) ∷ upTo (512 * p .di
 -- an entry: flags, number, the two forks' fields, dates, name, and what pads it
 unfoldable pub entryBytes : ℕ → ℕ → List ℕ → List ℕ → ℕ → ℕ → List ℕ → List ℕ → List ℕ
 entryBytes flags number content resource created changed name pad =
-    flat ((flags ∷ zeros 17) ∷ u32 number ∷ content ∷ resource ∷ u32 created ∷ u32 changed ∷ (length name ∷ name) ∷ pad ∷ [])
+    flat ((flags ∷ zeros 17) ∷ bytes32 number ∷ content ∷ resource ∷ bytes32 created ∷ bytes32 changed ∷ (length name ∷ name) ∷ pad ∷ [])
 
 abbrev pub forkBytesOf : ℕ → ℕ → ℕ → List ℕ
-forkBytesOf start logical physical = u16 start ++ (u32 logical ++ u32 physical)
+forkBytesOf start logical physical = bytes16 start ++ (bytes32 logical ++ bytes32 physical)
 
 abbrev pub WEEK1 : List ℕ
 WEEK1 = 87 ∷ 69 ∷ 69 ∷ 75 ∷ 49 ∷ []
@@ -94,11 +94,11 @@ sample k n = map (λ i. i % 251 + 1) (from n k)
 
 -- WEEK1 with another data fork and another change date
 unfoldable pub withWeek1 : ℕ → ℕ → ℕ → ℕ → List ℕ → List ℕ
-withWeek1 start logical physical changed image = withBytes 2070 (forkBytesOf start logical physical) (withBytes 2094 (u32 changed) image)
+withWeek1 start logical physical changed image = withBytes 2070 (forkBytesOf start logical physical) (withBytes 2094 (bytes32 changed) image)
 
 -- HALL with another free count, and with another map entry for block 4
 unfoldable pub freeCount3 : List ℕ
-freeCount3 = withBytes 1058 (u16 3) hall
+freeCount3 = withBytes 1058 (bytes16 3) hall
 
 unfoldable pub ring : List ℕ
 ring = withBytes 1092 (0x20 ∷ []) hall
@@ -108,7 +108,7 @@ ring = withBytes 1092 (0x20 ∷ []) hall
 unfoldable pub info800 : ℕ → List ℕ
 info800 n =
     flat
-    ((0xd2 ∷ 0xd7 ∷ zeros 8) ∷ u16 0 ∷ u16 0 ∷ u16 4 ∷ u16 12 ∷ u16 n ∷ u32 1024 ∷ u32 0 ∷ u16 16 ∷ u32 1 ∷ u16 n ∷ zeros 28 ∷ [])
+    ((0xd2 ∷ 0xd7 ∷ zeros 8) ∷ bytes16 0 ∷ bytes16 0 ∷ bytes16 4 ∷ bytes16 12 ∷ bytes16 n ∷ bytes32 1024 ∷ bytes32 0 ∷ bytes16 16 ∷ bytes32 1 ∷ bytes16 n ∷ zeros 28 ∷ [])
 
 -- ---- Rows
 
@@ -166,25 +166,25 @@ pCases =
     ∷ equal hallByRules hall
     -- P3 write 400 at 700 in WEEK1: block 4 leads to 5, map begins 00 40 01 00 50 01, one free.
     ∷ does hall (write WEEK1 Data 700 (sample 0 400) 9) (only 0 [])
-    (withBytes 1058 (u16 1) (withBytes 1088 (0x00 ∷ 0x40 ∷ 0x01 ∷ 0x00 ∷ 0x50 ∷ 0x01 ∷ [])
+    (withBytes 1058 (bytes16 1) (withBytes 1088 (0x00 ∷ 0x40 ∷ 0x01 ∷ 0x00 ∷ 0x50 ∷ 0x01 ∷ [])
     (withWeek1 2 1100 1536 9 (withBytes 3772 (sample 0 324) (withBytes 4096 (sample 324 76) hall)))))
     -- P4 write 1,348 at 700: four blocks, none free.
     ∷ does hall (write WEEK1 Data 700 (sample 0 1348) 9) (only 0 [])
-    (withBytes 1058 (u16 0) (withBytes 1088 (0x00 ∷ 0x40 ∷ 0x01 ∷ 0x00 ∷ 0x50 ∷ 0x06 ∷ 0x00 ∷ 0x10 ∷ [])
+    (withBytes 1058 (bytes16 0) (withBytes 1088 (0x00 ∷ 0x40 ∷ 0x01 ∷ 0x00 ∷ 0x50 ∷ 0x06 ∷ 0x00 ∷ 0x10 ∷ [])
     (withWeek1 2 2048 2048 9 (withBytes 3772 (sample 0 324) (withBytes 4096 (sample 324 1024) hall)))))
     -- P5 write 1,349 at 700: 17.
     ∷ does hall (write WEEK1 Data 700 (sample 0 1349) 9) (only 17 []) hall
     -- P6 write 0 at 700: only the date. At 701: 16.
-    ∷ does hall (write WEEK1 Data 700 [] 9) (only 0 []) (withBytes 2094 (u32 9) hall)
+    ∷ does hall (write WEEK1 Data 700 [] 9) (only 0 []) (withBytes 2094 (bytes32 9) hall)
     ∷ does hall (write WEEK1 Data 701 [] 9) (only 16 []) hall
     -- P7 cut WEEK1 to 513: two blocks stay.
     ∷ does hall (cut WEEK1 Data 513 9) (only 0 []) (withWeek1 2 513 1024 9 hall)
     -- P8 cut to 512: entry 2 is 1, entry 4 is 0, three free.
     ∷ does hall (cut WEEK1 Data 512 9) (only 0 [])
-    (withBytes 1058 (u16 3) (withBytes 1088 (0x00 ∷ 0x10 ∷ 0x01 ∷ 0x00 ∷ 0x00 ∷ 0x00 ∷ []) (withWeek1 2 512 512 9 hall)))
+    (withBytes 1058 (bytes16 3) (withBytes 1088 (0x00 ∷ 0x10 ∷ 0x01 ∷ 0x00 ∷ 0x00 ∷ 0x00 ∷ []) (withWeek1 2 512 512 9 hall)))
     -- P9 delete RATES: map begins 00 40 00 00 10 00; the directory block is zero from byte 56.
     ∷ does hall (delete RATES) (only 0 [])
-    (withBytes 1036 (u16 1) (withBytes 1058 (u16 3) (withBytes 1088 (0x00 ∷ 0x40 ∷ 0x00 ∷ 0x00 ∷ 0x10 ∷ 0x00 ∷ [])
+    (withBytes 1036 (bytes16 1) (withBytes 1058 (bytes16 3) (withBytes 1088 (0x00 ∷ 0x40 ∷ 0x00 ∷ 0x00 ∷ 0x10 ∷ 0x00 ∷ [])
     (withBytes 2104 (zeros 456) hall))))
     -- P10 "week1" is found; create of it: 14.
     ∷ does hall (find week1) (tellsEntry 0 weekFacts) hall
@@ -270,11 +270,11 @@ fullWeek = withBytes 2560 (sample 0 512) (withBytes 3584 (sample 512 512) hall)
 
 -- HALL, RATES having 3 resource bytes in block 5
 unfoldable pub resourceDisk : List ℕ
-resourceDisk = withBytes 1058 (u16 1) (withBytes 1093 (0x01 ∷ []) (withBytes 2136 (forkBytesOf 5 3 512) hall))
+resourceDisk = withBytes 1058 (bytes16 1) (withBytes 1093 (0x01 ∷ []) (withBytes 2136 (forkBytesOf 5 3 512) hall))
 
 -- HALL, WEEK1 being of 100 bytes in the same two blocks
 unfoldable pub roomyDisk : List ℕ
-roomyDisk = withBytes 2072 (u32 100) hall
+roomyDisk = withBytes 2072 (bytes32 100) hall
 
 -- a directory block that is full to its last byte: a name of 255 and one of 155
 unfoldable pub longName : ℕ → ℕ → List ℕ
@@ -333,7 +333,7 @@ telling =
     -- equal names, a shared block, a block that no fork has
     bad 7 (withBytes 2155 week1 hall)
     ∷ bad 8 (withBytes 2136 (forkBytesOf 3 512 512) hall)
-    ∷ bad 9 (withBytes 1058 (u16 1) (withBytes 1093 (0x01 ∷ []) hall))
+    ∷ bad 9 (withBytes 1058 (bytes16 1) (withBytes 1093 (0x01 ∷ []) hall))
     -- what is not judged: bytes behind the reading, a pad byte
     ∷ does staleDisk check (tellsFacts hallFacts) staleDisk
     ∷ does paddedDisk (entry 1) (tellsEntry 0 ratesFacts) paddedDisk
@@ -341,13 +341,13 @@ telling =
     ∷ does fullWeek (read WEEK1 Data 690 (replicate 20 0xee)) (tellsRead 10 (sample 690 10 ++ replicate 10 0xee)) fullWeek
     -- create over stale bytes; write with dead space beside the last entry
     ∷ does staleDisk (create NEWS (zeros 16) 7 8) (only 0 [])
-    (withBytes 1036 (u16 3) (withBytes 1054 (u32 4) (withBytes 2160 (newsEntry 3 0 ++ zeros 296) staleDisk)))
+    (withBytes 1036 (bytes16 3) (withBytes 1054 (bytes32 4) (withBytes 2160 (newsEntry 3 0 ++ zeros 296) staleDisk)))
     ∷ does deadDisk (write WEEK1 Data 700 (sample 0 1348) 9) (only 0 [])
-    (withBytes 1058 (u16 0) (withBytes 1092 (0x50 ∷ 0x06 ∷ 0x00 ∷ 0x1f ∷ [])
+    (withBytes 1058 (bytes16 0) (withBytes 1092 (0x50 ∷ 0x06 ∷ 0x00 ∷ 0x1f ∷ [])
     (withWeek1 2 2048 2048 9 (withBytes 3772 (sample 0 324) (withBytes 4096 (sample 324 1024) deadDisk)))))
     -- delete frees the blocks of both forks
     ∷ does resourceDisk (delete RATES) (only 0 [])
-    (withBytes 1036 (u16 1) (withBytes 1058 (u16 3) (withBytes 1088 (0x00 ∷ 0x40 ∷ 0x00 ∷ 0x00 ∷ 0x10 ∷ 0x00 ∷ [])
+    (withBytes 1036 (bytes16 1) (withBytes 1058 (bytes16 3) (withBytes 1088 (0x00 ∷ 0x40 ∷ 0x00 ∷ 0x00 ∷ 0x10 ∷ 0x00 ∷ [])
     (withBytes 2104 (zeros 456) resourceDisk))))
     ∷ []
 

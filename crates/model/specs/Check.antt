@@ -99,6 +99,11 @@ fires10 e n free = not (eqb free (length (freeBlocks e n)))
 abbrev pub orElse : Bool → ℕ → ℕ → ℕ
 orElse fires number rest = cond fires number rest
 
+-- the first number, unless it is 0; then the second
+unfoldable pub firstOf : ℕ → ℕ → ℕ
+firstOf zero b = b
+firstOf (suc a) b = suc a
+
 unfoldable pub from9 : VolumeFacts → (ℕ → ℕ) → List ForkFacts → ℕ
 from9 f e gs = orElse (fires9 e (N f) (A f) gs) 9 (orElse (fires10 e (N f) (freeCount f)) 10 0)
 
@@ -180,7 +185,7 @@ pub record SoundFork (e : ℕ → ℕ) (n a : ℕ) (g : ForkFacts) : Type 0 wher
   pub some : (g .start .0 ≡ 0 → ⊥) → 1 ≤ g .physical
   pub whole : (g .start .0 ≡ 0 → ⊥) → g .physical % a ≡ 0
   pub within : (g .start .0 ≡ 0 → ⊥) → g .logical ≤ g .physical
-  pub chain : (g .start .0 ≡ 0 → ⊥) → Chain e n (g .physical / a) (g .start .0)
+  pub chain : (g .start .0 ≡ 0 → ⊥) → Chain e n (blockCount a g) (g .start .0)
 
 -- the fork at place i of those in directory order, data before resource
 abbrev pub forkAt : List ForkFacts → ℕ → ForkFacts

@@ -18,9 +18,13 @@ use Rattle.model.specs.declared.Fork.the-variants.{Data, Resource}
 unfoldable pub padded : ℕ → ℕ
 padded n = n + n % 2
 
--- An entry is 51 bytes and its name, plus one byte to make the size even: the size of the entry that begins the bytes.
+-- An entry is 51 bytes and its name, plus one byte to make the size even: by the name's length, and of the entry that begins
+-- the bytes.
+abbrev pub sizeFor : ℕ → ℕ
+sizeFor n = padded (51 + n)
+
 unfoldable pub entrySize : List ℕ → ℕ
-entrySize e = padded (51 + byte e 50)
+entrySize e = sizeFor (byte e 50)
 
 -- bit 7 in use
 unfoldable pub inUse : List ℕ → Bool

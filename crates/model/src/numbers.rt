@@ -2,7 +2,7 @@
 ghost use mathlib.Core.Path.{_≡_};
 ghost use Prim.Native.Nat.{_+_, _<_};
 ghost use lib.ListN.{length};
-ghost use Rattle.model.specs.Bytes.{byte, be16, be32, u16, u32};
+ghost use Rattle.model.specs.Bytes.{byte, be16, be32};
 
 // The byte at a place, as wide as the numbers it is a part of.
 fn byte_at(s: &[u8], at: usize) -> u16

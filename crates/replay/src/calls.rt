@@ -1,4 +1,4 @@
-// The records of the calls: each reads its fields, makes the call and prints its line. False ends the run.
+// The records of the calls that change nothing: each reads its fields, makes the call and prints its line. False ends the run.
 ghost use mathlib.Core.Path.{_≡_};
 ghost use lib.ListN.{length};
 use model::Fork;

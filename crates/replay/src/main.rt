@@ -60,6 +60,7 @@ fn record(space: &mut [u8], n: usize) -> Next {
     if tag == b'I' {
         return load(space);
     }
+    // n is what `load` gave, never more than the space has.
     if space.len() < n {
         return Next::Stop;
     }

@@ -7,9 +7,9 @@ use native.Mathlib.Omega.{arith}
 use native.Mathlib.Decide.{ℕ-discrete}
 use lib.ListN.{length}
 use borrow.Author.Tests.{eq-eqb, ne-eqb}
-use Rattle.model.specs.Bytes.{Bytes, firstOf}
+use Rattle.model.specs.Bytes.{Bytes}
 use Rattle.model.specs.Facts.{factsOf, noFacts}
-use Rattle.model.specs.Check.{fires1, from2, verdict}
+use Rattle.model.specs.Check.{firstOf, fires1, from2, verdict}
 use Rattle.model.specs.Calls.{Answer, refuses, refusal, only, tellsFacts, reply, lent, change, answer, Fits, Does}
 use Rattle.model.specs.Calls.Call.{check}
 use Rattle.model.specs.declared.VolumeFacts.{VolumeFacts}

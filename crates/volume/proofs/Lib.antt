@@ -1,3 +1,3 @@
 pub mod Checked
 pub mod Stopped
-pub mod Runs
+pub mod Happened

@@ -1,6 +1,6 @@
 // What any of the calls gives back, in one form.
 ghost use mathlib.Core.Path.{_≡_};
-ghost use Rattle.volume.specs.Runs.{fromNumber, fromCheck, fromEntry, fromFind, fromBlock, fromRead};
+ghost use Rattle.volume.specs.Happens.{fromNumber, fromCheck, fromEntry, fromFind, fromBlock, fromRead};
 use crate::Outcome;
 use files::BlockAnswer;
 use files::CheckAnswer;

@@ -1,9 +1,9 @@
-// The calls on a volume. Each of the nine checks the image itself, and states its answer and every byte that it leaves. Then
-// what they owe together, in any list.
+// The calls on a volume. Each checks the image itself, and states its answer and every byte that it leaves. Then what they owe
+// together, in any list.
 mod answer_of;
 mod changing;
 mod checking;
-mod nine;
+mod making;
 mod reading;
 
 pub use changing::create;
@@ -11,16 +11,16 @@ pub use changing::cut;
 pub use changing::delete;
 pub use changing::write;
 pub use checking::check;
+pub use making::make_call;
 use model::AllocationBlock;
 use model::DirectoryEntry;
 use model::VolumeFacts;
-pub use nine::one_of_nine;
 pub use reading::block;
 pub use reading::entry;
 pub use reading::find;
 pub use reading::read;
 
-// What any of the nine gives back: what its answer does not tell is zero.
+// What any call gives back: what its answer does not tell is zero.
 pub struct Outcome {
     pub number: u8,
     pub facts: VolumeFacts,
@@ -30,7 +30,7 @@ pub struct Outcome {
     pub count: usize,
 }
 
-// Each of the nine calls by its name.
+// Each call by its name.
 pub enum Wanted {
     Check,
     Entry,

@@ -1,4 +1,4 @@
-//! One of the nine calls with its arguments.
+//! A call with its arguments.
 
 use std::fmt;
 use std::ops::Deref;
@@ -53,7 +53,7 @@ pub const KINDS: [&str; 9] = [
 ];
 
 impl Call {
-    /// Which of the nine it is.
+    /// Which call it is.
     pub fn kind(&self) -> usize {
         match self {
             Call::Check => 0,

@@ -131,7 +131,7 @@ fn calls_on(image: &[u8]) -> Vec<Measured> {
     ]
 }
 
-/// Every volume with the calls that are measured on it: all nine on the plain ones, the check on the crowded ones.
+/// Every volume with the calls that are measured on it: every call on the plain ones, the check on the crowded ones.
 fn all() -> Vec<(&'static str, Vec<Measured>)> {
     let plain = images::shapes()
         .into_iter()

@@ -1,6 +1,6 @@
 //! MFS volumes, the first Macintosh file system, by the proved calls.
 //!
-//! An image is a run of bytes. [`Volume`] has the nine calls of document 01, each on the image that it is given; what
+//! An image is a run of bytes. [`Volume`] has the calls of document 01, each on the image that it is given; what
 //! they answer and what they leave in the image is proved, this library over them is tested. Names are bytes in
 //! Mac OS Roman, compared without the case of a to z. Dates are seconds since 1 January 1904 by the clock of whoever
 //! wrote them.
@@ -128,7 +128,7 @@ impl Entry {
     }
 }
 
-/// The nine calls, and what is made of them alone. Each call checks the whole volume first.
+/// The calls, and what is made of them alone. Each call checks the whole volume first.
 pub enum Volume {}
 
 impl Volume {

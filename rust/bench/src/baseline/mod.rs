@@ -1,4 +1,4 @@
-//! Document 01's nine calls on an MFS volume, in safe Rust.
+//! Document 01's calls on an MFS volume, in safe Rust.
 //!
 //! The image is one slice. Every call checks it whole (checks 1 to 10), then runs the checks of its own in the order
 //! of the table, and only then changes a byte.

@@ -5,7 +5,7 @@ use mathlib.Core.Bool.{false≢true}
 use native.Mathlib.Omega.{arith}
 use denote.Ref.{now}
 use Rattle.model.proofs.Map.{is-block}
-use Rattle.blockmap.specs.Decoded.{entryIn}
+use Rattle.blockmap.specs.Decoded.{decodedEntry}
 use Rattle.blockmap.proofs.Walks.{walk-ends, walk-none, walk-met, walk-on, ends-marked, on-marked, too-low, too-high}
 use borrow.Fn.Kinds.{In}
 use borrow.Fn.PlainCycle.{Measures, is, falls, and}
@@ -31,14 +31,14 @@ start t c = c .before .before .before
 walk-returns : (t : ℕ) → walk-lts.Need-returns (walk-below t, walk.Post) (walk-at t) walk.Post
 walk-returns t c =
     let a = c .before .args in
-    let e = entryIn (now (a .entries)) in
+    let e = decodedEntry (now (a .entries)) in
     let m = now (a .marks) in
     (walk-ends e (a .n) m (a .k) (a .s) (c .if1 .taken), λ r. ends-marked e m (a .k) (a .s) (c .if1 .taken))
 
 walk-returns-2 : (t : ℕ) → walk-lts.Need-returns-2 (walk-below t, walk.Post) (walk-at t) walk.Post
 walk-returns-2 t c =
     let a = c .before .before .args in
-    let e = entryIn (now (a .entries)) in
+    let e = decodedEntry (now (a .entries)) in
     let m = now (a .marks) in
     (walk-none e (a .n) m (a .k) (a .s) (omega arith) (too-low (a .n) (a .s) (omega arith)), λ r. absurd (false≢true r))
 
@@ -48,7 +48,7 @@ walk-add-if3 t c = omega arith
 walk-returns-3 : (t : ℕ) → walk-lts.Need-returns-3 (walk-below t, walk.Post) (walk-at t) walk.Post
 walk-returns-3 t c =
     let a = c .before .before .before .args in
-    let e = entryIn (now (a .entries)) in
+    let e = decodedEntry (now (a .entries)) in
     let m = now (a .marks) in
     (walk-none e (a .n) m (a .k) (a .s) (omega arith) (too-high (a .n) (a .s) (omega arith)), λ r. absurd (false≢true r))
 
@@ -59,7 +59,7 @@ walk-returns-4 : (t : ℕ) → walk-lts.Need-returns-4 (walk-below t, walk.Post)
 walk-returns-4 t c =
     let numbered = c .before .before in
     let a = start t numbered .args in
-    let e = entryIn (now (a .entries)) in
+    let e = decodedEntry (now (a .entries)) in
     let m = now (a .marks) in
     (walk-met e (a .n) m (a .k) (a .s) (omega arith) (c .if4 .taken), λ r. absurd (false≢true r))
 
@@ -79,11 +79,11 @@ walk-walk-requires : (t : ℕ) → walk-lts.Need-walk-requires (walk-below t, wa
 walk-walk-requires t c κs = omega arith
 
 walk-returns-5 : (t : ℕ) → walk-lts.Need-returns-5 (walk-below t, walk.Post) (walk-at t) walk.Post
-unfolding entryIn
+unfolding decodedEntry
 walk-returns-5 t c =
     let p = c .before .before .before in
     let a = start t (p .before .before) .args in
-    let e = entryIn (now (a .entries)) in
+    let e = decodedEntry (now (a .entries)) in
     let m = now (a .marks) in
     let j = a .k - 1 in
     let q : a .k ≡ suc j = omega arith in

@@ -8,7 +8,7 @@ use borrow.Author.Tests.{eqb-true}
 use Rattle.model.specs.Map.{chainBlocks}
 use Rattle.model.specs.Directory.{blockCount, forkBlocks}
 use Rattle.model.specs.Check.{SoundFork}
-use Rattle.blockmap.specs.Decoded.{entryIn}
+use Rattle.blockmap.specs.Decoded.{decodedEntry}
 use Rattle.blockmap.specs.Marks.{marked, claims}
 use Rattle.blockmap.proofs.Marks.{refused, sound-most, claims-empty, empty-marked, claims-walk}
 use borrow.Author.Needs.{needs}
@@ -24,9 +24,9 @@ lengths c = c .before .before .before
 
 -- a fork that is not sound is refused, and nothing is asked of its marks
 refuses : {X : Type 0} (s : tie.Start)
-    → let a = s .args in (SoundFork (entryIn (now (a .entries))) (a .n) (a .a) (a .g) → ⊥)
-    → (false ≡ claims (entryIn (now (a .entries))) (a .n) (a .a) (now (a .marks)) (a .g)) × (false ≡ true → X)
-refuses s h = let a = s .args in (refused (entryIn (now (a .entries))) (a .n) (a .a) (now (a .marks)) (a .g) h, λ r. absurd (false≢true r))
+    → let a = s .args in (SoundFork (decodedEntry (now (a .entries))) (a .n) (a .a) (a .g) → ⊥)
+    → (false ≡ claims (decodedEntry (now (a .entries))) (a .n) (a .a) (now (a .marks)) (a .g)) × (false ≡ true → X)
+refuses s h = let a = s .args in (refused (decodedEntry (now (a .entries))) (a .n) (a .a) (now (a .marks)) (a .g) h, λ r. absurd (false≢true r))
 
 returns : tie.Need-returns
 returns c = refuses (c .before .before .before) (λ s. c .if2 .taken (s .empty (c .before .if1 .taken) .0))
@@ -34,7 +34,7 @@ returns c = refuses (c .before .before .before) (λ s. c .if2 .taken (s .empty (
 returns-2 : tie.Need-returns-2
 returns-2 c =
     let a = c .before .before .before .args in
-    let e = entryIn (now (a .entries)) in (
+    let e = decodedEntry (now (a .entries)) in (
       claims-empty e (a .n) (a .a) (now (a .marks)) (a .g) (c .before .if1 .taken) (c .if2 .left),
       λ r. empty-marked e (a .n) (a .a) (now (a .marks)) (a .g) (eqb-true (a .g .physical) 0 r),
     )
@@ -64,7 +64,7 @@ returns-6 c =
       arith,
       c .if6 .taken,
       k .block-count .ensures,
-      sound-most (entryIn (now (a .entries))) (a .n) (a .a) (now (a .marks)) (a .g) s (d .if1 .left),
+      sound-most (decodedEntry (now (a .entries))) (a .n) (a .a) (now (a .marks)) (a .g) s (d .if1 .left),
     ))
 
 cast-walk : tie.Need-cast-walk
@@ -80,7 +80,7 @@ returns-7 c =
     let p = k .before in
     let d = lengths p in
     let a = start d .args in
-    let e = entryIn (now (a .entries)) in
+    let e = decodedEntry (now (a .entries)) in
     let w = claims-walk e (a .n) (a .a) (now (a .marks)) (a .g) (d .if1 .left) (p .before .before .if3 .left) (p .before .if4 .left) (p .if5 .left)
     (k .block-count .result) (k .block-count .ensures) in (
       c .walk .ensures .0 ∙ w,

@@ -10,7 +10,7 @@ use denote.Ref.{now}
 use Rattle.model.specs.Lists.{any}
 use Rattle.model.specs.Map.{sortOf, isBad}
 use Rattle.model.specs.Check.{fires5}
-use Rattle.blockmap.specs.Decoded.{entryIn}
+use Rattle.blockmap.specs.Decoded.{decodedEntry}
 use Rattle.blockmap.proofs.Ranges.{onward, all-onward, flag-hit, flag-miss, flag-none}
 use borrow.Author.Needs.{needs}
 use Rattle.blockmap.proofs.scan.any_bad.Statement.{statement}
@@ -18,14 +18,14 @@ use Rattle.blockmap.proofs.scan.any_bad.Tie as tie
 
 -- block b's entry is bad
 abbrev bad : List ℕ → ℕ → ℕ → Bool
-bad entries n b = isBad (sortOf n (entryIn entries b))
+bad entries n b = isBad (sortOf n (decodedEntry entries b))
 
 -- what was found and what is left are all
-abbrev Found : List ℕ → ℕ → Bool → ℕ → Type 0
-Found entries n found b = fires5 (entryIn entries) n ≡ (found || any (bad entries n) (onward n b))
+abbrev SeenBad : List ℕ → ℕ → Bool → ℕ → Type 0
+SeenBad entries n found b = fires5 (decodedEntry entries) n ≡ (found || any (bad entries n) (onward n b))
 
 abbrev Inv-loop : tie.InvT-loop
-Inv-loop entries n end found₀ b₀ found b = (2 ≤ b) × (b ≤ n + 2) × Found entries n found b
+Inv-loop entries n end found₀ b₀ found b = (2 ≤ b) × (b ≤ n + 2) × SeenBad entries n found b
 
 abbrev μ-loop : tie.MeasureT-loop
 μ-loop entries n end found₀ b₀ found b = n + 2 - b
@@ -77,22 +77,22 @@ module _ (c : tie.After-sort-value Inv-loop μ-loop) (found : Bool) where
   entries = now (at .before .args .entries)
 
   sorted : bad entries (at .before .args .n) (at .loop .b) ≡ isBad (c .sort-value .result)
-  unfolding entryIn
+  unfolding decodedEntry
   sorted = ap isBad (sym (c .sort-value .ensures))
 
-  hit : isBad (c .sort-value .result) ≡ true → found ≡ true → Found entries (at .before .args .n) found (at .loop .b + 1)
+  hit : isBad (c .sort-value .result) ≡ true → found ≡ true → SeenBad entries (at .before .args .n) found (at .loop .b + 1)
   hit e q =
       let n = at .before .args .n in
       at .loop .inv .2 ∙ flag-hit (bad entries n) n (at .loop .b) (at .loop .found) found (omega arith) (sorted ∙ e) q
 
-  miss : isBad (c .sort-value .result) ≡ false → found ≡ at .loop .found → Found entries (at .before .args .n) found (at .loop .b + 1)
+  miss : isBad (c .sort-value .result) ≡ false → found ≡ at .loop .found → SeenBad entries (at .before .args .n) found (at .loop .b + 1)
   miss e q =
       let n = at .before .args .n in
       at .loop .inv .2 ∙ flag-miss (bad entries n) n (at .loop .b) (at .loop .found) found (omega arith) (sorted ∙ e) q
 
 -- the block is passed, by each way
 passed : (c : tie.At-match-came Inv-loop μ-loop)
-    → let at = at-loop (c .before) in Found (now (at .before .args .entries)) (at .before .args .n) (c .match .found) (at .loop .b + 1)
+    → let at = at-loop (c .before) in SeenBad (now (at .before .args .entries)) (at .before .args .n) (c .match .found) (at .loop .b + 1)
 unfolding isBad
 passed c =
     ⊎-elim (λ w. hit (c .before) (c .match .found) (ap isBad (w .1 .given .1)) (w .2))

@@ -9,7 +9,7 @@ use denote.Ref.{now}
 use lib.ListN.{getD}
 use lib.Dec.{eqb, ltb}
 use Rattle.model.specs.Lists.{any}
-use Rattle.blockmap.specs.Decoded.{entryIn}
+use Rattle.blockmap.specs.Decoded.{decodedEntry}
 use Rattle.blockmap.specs.Marks.{unowned}
 use Rattle.blockmap.proofs.Ranges.{onward, all-onward, flag-on, flag-none}
 use borrow.Author.Needs.{needs}
@@ -18,11 +18,11 @@ use Rattle.blockmap.proofs.scan.any_unowned.Tie as tie
 
 -- block b has an entry above 0 and no mark
 abbrev lost : List ℕ → List ℕ → ℕ → Bool
-lost entries marks b = ltb 0 (entryIn entries b) && eqb (getD marks b 0) 0
+lost entries marks b = ltb 0 (decodedEntry entries b) && eqb (getD marks b 0) 0
 
 abbrev Inv-loop : tie.InvT-loop
 Inv-loop entries n marks end found₀ b₀ found b =
-    (2 ≤ b) × (b ≤ n + 2) × (unowned (entryIn entries) n marks ≡ (found || any (lost entries marks) (onward n b)))
+    (2 ≤ b) × (b ≤ n + 2) × (unowned (decodedEntry entries) n marks ≡ (found || any (lost entries marks) (onward n b)))
 
 abbrev μ-loop : tie.MeasureT-loop
 μ-loop entries n marks end found₀ b₀ found b = n + 2 - b
@@ -57,7 +57,7 @@ loop-less : tie.Need-loop-less Inv-loop μ-loop
 loop-less c = omega arith
 
 loop-again : tie.Need-loop-again Inv-loop μ-loop
-unfolding entryIn
+unfolding decodedEntry
 loop-again c =
     let at = at-loop c in
     let a = at .before .args in

@@ -11,14 +11,14 @@ use lib.Dec.{eqb}
 use borrow.Author.Tests.{eq-eqb, ne-eqb}
 use Rattle.model.specs.Lists.{keep}
 use Rattle.model.specs.Map.{freeBlocks}
-use Rattle.blockmap.specs.Decoded.{entryIn}
+use Rattle.blockmap.specs.Decoded.{decodedEntry}
 use Rattle.blockmap.proofs.Ranges.{onward, all-onward, count-hit, count-miss, count-none}
 use Rattle.blockmap.proofs.scan.free_count.Statement.{statement}
 use Rattle.blockmap.proofs.scan.free_count.Tie as tie
 
 -- block b is free
 abbrev free-at : List ℕ → ℕ → Bool
-free-at entries b = eqb (entryIn entries b) 0
+free-at entries b = eqb (decodedEntry entries b) 0
 
 -- those from b on
 abbrev left : List ℕ → ℕ → ℕ → ℕ
@@ -26,7 +26,7 @@ left entries n b = length (keep (free-at entries) (onward n b))
 
 abbrev Inv-loop : tie.InvT-loop
 Inv-loop entries n end free₀ b₀ free b =
-    (2 ≤ b) × (b ≤ n + 2) × (free + 2 ≤ b) × (free + left entries n b ≡ length (freeBlocks (entryIn entries) n))
+    (2 ≤ b) × (b ≤ n + 2) × (free + 2 ≤ b) × (free + left entries n b ≡ length (freeBlocks (decodedEntry entries) n))
 
 abbrev μ-loop : tie.MeasureT-loop
 μ-loop entries n end free₀ b₀ free b = n + 2 - b
@@ -57,13 +57,13 @@ loop-less : tie.Need-loop-less Inv-loop μ-loop
 loop-less c = omega arith
 
 loop-again : tie.Need-loop-again Inv-loop μ-loop
-unfolding entryIn
+unfolding decodedEntry
 loop-again c =
     let at = c .before .before .before in
     let a = at .before .args in
     let p = free-at (now (a .entries)) in
     let l = at .loop in
-    let v = entryIn (now (a .entries)) (l .b) in
+    let v = decodedEntry (now (a .entries)) (l .b) in
     let before = l .inv .3 in
     ⊎-elim
     (λ w. let m = count-hit p (a .n) (l .b) (omega arith) (eq-eqb v 0 (w .0 .taken)) in (omega arith, omega arith, omega (arith, w .1), omega (arith, w .1)))

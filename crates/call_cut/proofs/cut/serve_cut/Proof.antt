@@ -7,7 +7,7 @@ use Rattle.model.specs.Calls.Call.{cut}
 use Rattle.files.specs.Lookup.{ChangeableFork}
 use Rattle.files.proofs.Octets.{octets}
 use Rattle.files.proofs.Refusing.{cut-changing, changed-fork, changed-no-fork, changed-fork-at, refused}
-use Rattle.call_cut.proofs.Cuts.{cut-fits, cut-done}
+use Rattle.call_cut.proofs.Cuts.{cut-fits, cut-served}
 use borrow.Author.Needs.{needs}
 use Rattle.call_cut.proofs.cut.serve_cut.Statement.{statement}
 use Rattle.call_cut.proofs.cut.serve_cut.Tie as tie
@@ -65,7 +65,7 @@ returns-2 c =
     let d = c .before .before in
     let e = d .before .before .before in
     let k = e .before .before in
-    cut-done (start k .pre) (image-bytes k) (fork e) (fits k) (d .shorten-fork .ensures)
+    cut-served (start k .pre) (image-bytes k) (fork e) (fits k) (d .shorten-fork .ensures)
 
 pub serve-cut-spec : {M : Type 1} → statement M
 serve-cut-spec =

@@ -6,7 +6,7 @@ use Rattle.model.specs.Calls.Call.{delete}
 use Rattle.files.specs.Lookup.{Changeable}
 use Rattle.files.proofs.Octets.{octets}
 use Rattle.files.proofs.Refusing.{delete-changing, changed-file, changed-none, refused}
-use Rattle.call_delete.proofs.Deletes.{delete-fits, delete-done}
+use Rattle.call_delete.proofs.Deletes.{delete-fits, delete-served}
 use borrow.Author.Needs.{needs}
 use Rattle.call_delete.proofs.delete.serve_delete.Statement.{statement}
 use Rattle.call_delete.proofs.delete.serve_delete.Tie as tie
@@ -59,7 +59,7 @@ returns-2 c =
     let d = c .before .before in
     let e = d .before .before .before in
     let k = e .before .before in
-    delete-done (start k .pre) (image-bytes k) (fits k) (file e) (d .take-file .ensures)
+    delete-served (start k .pre) (image-bytes k) (fits k) (file e) (d .take-file .ensures)
 
 pub serve-delete-spec : {M : Type 1} → statement M
 serve-delete-spec =

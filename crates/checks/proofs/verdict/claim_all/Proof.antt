@@ -8,7 +8,7 @@ use Rattle.model.specs.Directory.{forkOf, forksIn}
 use Rattle.model.specs.declared.ForkFacts.{ForkFacts}
 use Rattle.model.specs.declared.Fork.{Fork}
 use Rattle.model.specs.declared.Fork.the-variants.{Data, Resource}
-use Rattle.blockmap.specs.Decoded.{entryIn}
+use Rattle.blockmap.specs.Decoded.{decodedEntry}
 use Rattle.directory.specs.Cursor.{restOf, Passes, ahead, bytesAt, Advances}
 use Rattle.directory.proofs.Each.{advanced, none-left}
 use Rattle.checks.proofs.Claims.{Onward, onward-none, onward-same, onward-end, onward-claim, onward-not, forks-more, forks-none}
@@ -18,7 +18,7 @@ use Rattle.checks.proofs.verdict.claim_all.Tie as tie
 
 abbrev Inv-loop : tie.InvT-loop
 Inv-loop image entries n a marks₀ c₀ marks c =
-    Passes image c × Onward (entryIn entries) n a marks₀ (forksIn (restOf image c₀)) marks (forksIn (restOf image c))
+    Passes image c × Onward (decodedEntry entries) n a marks₀ (forksIn (restOf image c₀)) marks (forksIn (restOf image c))
 
 abbrev μ-loop : tie.MeasureT-loop
 μ-loop image entries n a marks₀ c₀ marks c = ahead c
@@ -44,7 +44,7 @@ behind c = forksIn (restOf (now (start c .args .image)) (c .e .given .0 .1 .0))
 abbrev Left : tie.After-e Inv-loop μ-loop → List ℕ → List ForkFacts → Type 0
 Left c u hs =
     let a = start c .args in
-    Onward (entryIn (now (a .entries))) (a .n) (a .a) (now (a .marks)) (forksIn (restOf (now (a .image)) (a .from))) u hs
+    Onward (decodedEntry (now (a .entries))) (a .n) (a .a) (now (a .marks)) (forksIn (restOf (now (a .image)) (a .from))) u hs
 
 -- before the entry's data fork is claimed
 first : (c : tie.After-e Inv-loop μ-loop) → Left c (at-loop c .loop .marks) (own c Data ∷ own c Resource ∷ behind c)

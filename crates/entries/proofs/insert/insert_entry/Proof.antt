@@ -16,17 +16,17 @@ use Rattle.entries.proofs.insert.insert_entry.Statement.{statement}
 use Rattle.entries.proofs.insert.insert_entry.Tie as tie
 
 -- what the stores need, where the image is x by now
-record Room (s : tie.Start) (x : List ℕ) : Type 0 where
+record Fitting (s : tie.Start) (x : List ℕ) : Type 0 where
   pub size : length x ≡ length (now (s .args .image))
   pub within : s .args .base + 512 ≤ length (now (s .args .image))
   pub room : s .args .end + (51 + length (now (s .args .name))) ≤ 512
   pub few : s .args .base + 512 < 18446744073709551616
 
-room : (c : tie.After-shared-slice-known) → Room (c .before .before) (now (c .before .before .args .image))
+room : (c : tie.After-shared-slice-known) → Fitting (c .before .before) (now (c .before .before .args .image))
 unfolding padded
 room c = record { size = refl; within = c .before .before .pre .0 .within; room = omega arith; few = omega arith }
 
-kept : {s : tie.Start} {x y : List ℕ} → Room s x → length y ≡ length x → Room s y
+kept : {s : tie.Start} {x y : List ℕ} → Fitting s x → length y ≡ length x → Fitting s y
 kept r k = record { size = k ∙ r .size; within = r .within; room = r .room; few = r .few }
 
 -- a place of the entry, and n bytes from it on
@@ -36,10 +36,10 @@ place-fits base end d l few h k = omega arith
 bytes-within : (base end d n l m k : ℕ) → base + 512 ≤ m → end + (51 + l) ≤ 512 → d + n ≤ 51 + l → k ≡ m → base + end + d + n ≤ k
 bytes-within base end d n l m k w h j e = omega arith
 
-place : {s : tie.Start} {x : List ℕ} → Room s x → (d : ℕ) → d ≤ 51 → Fits w64 (s .args .base + s .args .end + d)
+place : {s : tie.Start} {x : List ℕ} → Fitting s x → (d : ℕ) → d ≤ 51 → Fits w64 (s .args .base + s .args .end + d)
 place r d h = place-fits _ _ d _ (r .few) (r .room) h
 
-inside : {s : tie.Start} {x : List ℕ} → Room s x → (d n : ℕ) → d + n ≤ 51 + length (now (s .args .name)) → s .args .base + s .args .end + d + n ≤ length x
+inside : {s : tie.Start} {x : List ℕ} → Fitting s x → (d n : ℕ) → d + n ≤ 51 + length (now (s .args .name)) → s .args .base + s .args .end + d + n ≤ length x
 inside r d n h = bytes-within _ _ d n _ _ _ (r .within) (r .room) h (r .size)
 
 -- the places of a fixed part
@@ -98,29 +98,29 @@ abbrev begun : tie.After-put32-at3 → tie.Start
 begun c = start (flags-put (finder-put (number-put (forks-put (created-put c)))))
 
 -- behind each store
-after-flags : (c : tie.After-put16-at) → Room (start c) (c .put16-at .last .0)
+after-flags : (c : tie.After-put16-at) → Fitting (start c) (c .put16-at .last .0)
 after-flags c = kept (room (c .before .before)) (c .put16-at .kept .0)
 
-after-finder : (c : tie.After-put-bytes) → Room (start (flags-put c)) (c .put-bytes .last .0)
+after-finder : (c : tie.After-put-bytes) → Fitting (start (flags-put c)) (c .put-bytes .last .0)
 after-finder c = kept (after-flags (flags-put c)) (c .put-bytes .kept .0)
 
-after-number : (c : tie.After-put32-at) → Room (start (flags-put (finder-put c))) (c .put32-at .last .0)
+after-number : (c : tie.After-put32-at) → Fitting (start (flags-put (finder-put c))) (c .put32-at .last .0)
 after-number c = kept (after-finder (finder-put c)) (c .put32-at .kept .0)
 
-after-forks : (c : tie.After-clear) → Room (start (flags-put (finder-put (number-put c)))) (c .clear .last .0)
+after-forks : (c : tie.After-clear) → Fitting (start (flags-put (finder-put (number-put c)))) (c .clear .last .0)
 after-forks c = kept (after-number (number-put c)) (c .clear .kept .0)
 
-after-created : (c : tie.After-put32-at2) → Room (start (flags-put (finder-put (number-put (forks-put c))))) (c .put32-at2 .last .0)
+after-created : (c : tie.After-put32-at2) → Fitting (start (flags-put (finder-put (number-put (forks-put c))))) (c .put32-at2 .last .0)
 after-created c = kept (after-forks (forks-put c)) (c .put32-at2 .kept .0)
 
-after-changed : (c : tie.After-put32-at3) → Room (begun c) (c .put32-at3 .last .0)
+after-changed : (c : tie.After-put32-at3) → Fitting (begun c) (c .put32-at3 .last .0)
 after-changed c = kept (after-created (created-put c)) (c .put32-at3 .kept .0)
 
 after-length : (c : tie.After-put32-at3) → let a = begun c .args in
-    Room (begun c) (set (c .put32-at3 .last .0) (a .base + a .end + 50) (length (now (a .name))))
+    Fitting (begun c) (set (c .put32-at3 .last .0) (a .base + a .end + 50) (length (now (a .name))))
 after-length c = kept (after-changed c) (length-set (c .put32-at3 .last .0) _ _)
 
-after-title : (c : tie.After-put-bytes2) → Room (begun (changed-put c)) (c .put-bytes2 .last .0)
+after-title : (c : tie.After-put-bytes2) → Fitting (begun (changed-put c)) (c .put-bytes2 .last .0)
 after-title c = kept (after-length (changed-put c)) (c .put-bytes2 .kept .0)
 
 add-at : tie.Need-add-at

@@ -4,8 +4,7 @@ use mathlib.Core.Path.{_≡_, refl, sym, ap, _∙_}
 use native.Mathlib.Omega.{arith}
 use native.Mathlib.Nat.{div-le-self}
 use Rattle.model.specs.Directory.{blockCount}
-use Rattle.model.specs.Calls.{fewest}
-use Rattle.forks.specs.Growth.{newBlocks}
+use Rattle.model.specs.Calls.{fewest, newBlocks}
 use Rattle.forks.proofs.Growing.{new-blocks, too-many, grows, grows-not}
 use Rattle.forks.proofs.growth.new_blocks.Statement.{statement}
 use Rattle.forks.proofs.growth.new_blocks.Tie as tie

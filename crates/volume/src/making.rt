@@ -1,5 +1,5 @@
-// Whichever of the nine calls is made, it is an event of the claim on every run.
-ghost use Rattle.volume.specs.Runs.{callOf, Happens};
+// Whichever call is made, it is an event of the claim on every run.
+ghost use Rattle.volume.specs.Happens.{callOf, Happens};
 use crate::Outcome;
 use crate::Wanted;
 use crate::answer_of::of_block;
@@ -20,7 +20,7 @@ use crate::reading::read;
 use model::Fork;
 
 // Makes the call that is wanted with what it needs of all this, and gives back what that call gives.
-pub fn one_of_nine(
+pub fn make_call(
     image: &mut [u8],
     wanted: Wanted,
     name: &[u8],

@@ -1,11 +1,11 @@
--- `one_of_nine` meets its contract: whichever call is wanted, that call's own contract makes the event. Assumes nothing.
+-- `make_call` meets its contract: whichever call is wanted, that call's own contract makes the event. Assumes nothing.
 use mathlib.Core.Path.{refl}
 use borrow.Author.Needs.{needs}
 use Rattle.model.specs.Calls.{lent, only}
-use Rattle.volume.specs.Runs.{callOf}
-use Rattle.volume.proofs.Runs.{happens, read-happens}
-use Rattle.volume.proofs.nine.one_of_nine.Statement.{statement}
-use Rattle.volume.proofs.nine.one_of_nine.Tie as tie
+use Rattle.volume.specs.Happens.{callOf}
+use Rattle.volume.proofs.Happened.{happens, read-happens}
+use Rattle.volume.proofs.making.make_call.Statement.{statement}
+use Rattle.volume.proofs.making.make_call.Tie as tie
 
 enum-told : tie.Need-enum-told
 enum-told c = search needs
@@ -156,8 +156,8 @@ returns-9 : tie.Need-returns-9
 unfolding callOf lent only
 returns-9 c = let k = c .before .before .before in rw (k .before .before .enum-told9 .given .1, c .of-number4 .ensures) (happens (k .delete .ensures) refl)
 
-pub one-of-nine-spec : {M : Type 1} → statement M
-one-of-nine-spec =
+pub make-call-spec : {M : Type 1} → statement M
+make-call-spec =
     tie.close
     (tie.spec
     enum-told

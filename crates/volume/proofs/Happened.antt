@@ -12,7 +12,7 @@ use Rattle.files.specs.declared.ReadAnswer.{ReadAnswer}
 use Rattle.files.specs.Told.{toldRead}
 use Rattle.history.proofs.Run.{event}
 use Rattle.volume.specs.declared.Outcome.{Outcome}
-use Rattle.volume.specs.Runs.{toldOutcome, fromRead, Happens}
+use Rattle.volume.specs.Happens.{toldOutcome, fromRead, Happens}
 
 pub happens : {call : Call} {image : List ℕ} {o : Outcome} {buffer after left : List ℕ} → Does call image (toldOutcome o (take (length (lent call)) after)) left
     → drop (length (lent call)) after ≡ drop (length (lent call)) buffer → Happens call image o buffer after left
