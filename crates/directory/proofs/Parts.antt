@@ -79,11 +79,6 @@ module _ (image : List ℕ) (e : EntryAt) (s : Stands image e) where
   fork-field Data = part-fork image (e .start) (padded (51 + e .«name_length»)) 22 (omega (arith, long))
   fork-field Resource = part-fork image (e .start) (padded (51 + e .«name_length»)) 32 (omega (arith, long))
 
-  -- what was read for a fork, where the fork asked is that one
-  pub fork-read : (fork : Fork) {asked : Fork} (f : ForkFacts) → f ≡ forkIn (drop (e .start + forkPlace fork) image) → asked ≡ fork
-      → f ≡ forkOf asked (bytesAt image e)
-  fork-read fork f h q = h ∙ sym (fork-field fork) ∙ ap (λ (g : Fork). forkOf g (bytesAt image e)) (sym q)
-
   -- the name as the code takes its part, from its start to its end
   pub name-part : part (e .start + 51) (e .start + 51 + e .«name_length» - (e .start + 51)) image ≡ nameIn (bytesAt image e)
   name-part = ap (λ (n : ℕ). part (e .start + 51) n image) (add-sub-cancel-left (e .start + 51) (e .«name_length»)) ∙ sym name-of

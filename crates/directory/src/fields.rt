@@ -3,7 +3,7 @@ ghost use mathlib.Core.Path.{_≡_};
 ghost use Prim.Native.Nat.{_+_, _≤_};
 ghost use lib.ListN.{length, drop};
 ghost use Rattle.model.specs.Bytes.{part};
-ghost use Rattle.model.specs.Directory.{numberIn, forkOf, forkIn, wide, entryIn};
+ghost use Rattle.model.specs.Directory.{numberIn, forkPlace, forkOf, forkIn, wide, entryIn};
 ghost use Rattle.directory.specs.Cursor.{bytesAt, Stands};
 use crate::EntryAt;
 use model::AllocationBlock;
@@ -27,9 +27,16 @@ pub fn read_fork(image: &[u8], e: EntryAt, fork: Fork) -> ForkFacts
     requires { ⌜ Stands (now image) e ⌝ }
     ensures { λ r. ⌜ r ≡ forkOf fork (bytesAt (now (image .entry)) e) ⌝ }
 {
+    fork_at(image, e.start + fork_place(fork))
+}
+
+// Where an entry has the fork's fields.
+pub fn fork_place(fork: Fork) -> usize
+    ensures { λ r. ⌜ (r ≡ forkPlace fork) × (r ≤ 32) ⌝ }
+{
     match fork {
-        Fork::Data => fork_at(image, e.start + EntryAt::DATA_AT),
-        Fork::Resource => fork_at(image, e.start + EntryAt::RESOURCE_AT),
+        Fork::Data => EntryAt::DATA_AT,
+        Fork::Resource => EntryAt::RESOURCE_AT,
     }
 }
 

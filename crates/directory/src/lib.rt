@@ -5,6 +5,7 @@ mod places;
 mod reading;
 mod search;
 
+pub use fields::fork_place;
 pub use fields::number_of;
 pub use fields::read_entry;
 pub use fields::read_fork;

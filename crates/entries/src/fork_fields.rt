@@ -10,18 +10,9 @@ ghost use Rattle.directory.specs.Cursor.{Stands};
 use crate::numbers::put16_at;
 use crate::numbers::put32_at;
 use directory::EntryAt;
+use directory::fork_place;
 use model::Fork;
 use model::ForkFacts;
-
-// Where an entry has the fork's fields.
-fn fork_place(fork: Fork) -> usize
-    ensures { λ r. ⌜ (r ≡ forkPlace fork) × (r ≤ 32) ⌝ }
-{
-    match fork {
-        Fork::Data => EntryAt::DATA_AT,
-        Fork::Resource => EntryAt::RESOURCE_AT,
-    }
-}
 
 // Stores a fork's start, logical and physical length.
 fn put_fork(image: &mut [u8], at: usize, g: ForkFacts)

@@ -1,13 +1,16 @@
 -- `read_fork` meets its contract. Assumes nothing.
+use Prim.Native.Nat.{ℕ, _+_}
+use mathlib.Core.Path.{sym, ap, _∙_}
 use denote.Ref.{now}
-use Rattle.model.specs.declared.Fork.the-variants.{Data, Resource}
-use Rattle.directory.proofs.Parts.{fork-read}
+use lib.ListN.{drop}
+use Rattle.model.specs.Directory.{forkIn}
+use Rattle.directory.proofs.Parts.{fork-field}
 use borrow.Author.Needs.{needs}
 use Rattle.directory.proofs.fields.read_fork.Statement.{statement}
 use Rattle.directory.proofs.fields.read_fork.Tie as tie
 
-enum-told : tie.Need-enum-told
-enum-told c = search needs
+fork-place-requires : tie.Need-fork-place-requires
+fork-place-requires c κs = search needs
 
 add-fork-at : tie.Need-add-fork-at
 add-fork-at c = search needs
@@ -15,36 +18,13 @@ add-fork-at c = search needs
 fork-at-requires : tie.Need-fork-at-requires
 fork-at-requires c κs = search needs
 
-enum-told-2 : tie.Need-enum-told-2
-enum-told-2 c = search needs
-
-add-fork-at-2 : tie.Need-add-fork-at-2
-add-fork-at-2 c = search needs
-
-fork-at-requires-2 : tie.Need-fork-at-requires-2
-fork-at-requires-2 c κs = search needs
-
 returns : tie.Need-returns
 returns c =
-    let told = c .before .before in
-    let s = told .before .before .before in
-    fork-read (now (s .args .image)) (s .args .e) (s .pre) Data _ (c .fork-at .ensures) (told .enum-told .given .1)
-
-returns-2 : tie.Need-returns-2
-returns-2 c =
-    let told = c .before .before in
-    let s = told .before .before .before in
-    fork-read (now (s .args .image)) (s .args .e) (s .pre) Resource _ (c .fork-at2 .ensures) (told .enum-told2 .given .1)
+    let k = c .before .before in
+    let s = k .before .before in
+    let a = s .args in
+    c .fork-at .ensures ∙ ap (λ (n : ℕ). forkIn (drop (a .e .start + n) (now (a .image)))) (k .fork-place .ensures .0)
+    ∙ sym (fork-field (now (a .image)) (a .e) (s .pre) (a .fork))
 
 pub read-fork-spec : {M : Type 1} → statement M
-read-fork-spec =
-    tie.close
-    (tie.spec
-    enum-told
-    add-fork-at
-    fork-at-requires
-    enum-told-2
-    add-fork-at-2
-    fork-at-requires-2
-    returns
-    returns-2)
+read-fork-spec = tie.close (tie.spec fork-place-requires add-fork-at fork-at-requires returns)
