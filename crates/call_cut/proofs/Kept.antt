@@ -110,7 +110,8 @@ module _ {f : VolumeFacts} {image : List ℕ} {e : EntryAt} {fork : Fork} {g : F
         let gone : g .physical / A f - keep ≡ length (drop keep bs) = omega (arith, length-drop keep bs) in
         let base = afterCut (A f) image g size in
         let stores : y ≡ sets (sets base (e .start + forkPlace fork) (fields (forkWith (A f) size (take keep bs)))) (e .start + 46) (bytes32 changed) =
-        q ∙ (λ i. sets (sets (p i) (e .start + forkPlace fork) (bytes16 (s i) ++ (bytes32 size ++ bytes32 (kept i * A f)))) (e .start + 46) (bytes32 changed)) in
+        q ∙ (λ i. sets (sets (p i) (e .start + forkPlace fork) (bytes16 (s i) ++ (bytes32 size ++ bytes32 (kept i * A f)))) (e .start + 46)
+        (bytes32 changed)) in
         r ∙ (λ i. withFree (freeCount f + gone i) ((stores ∙ held-stored t base cut-based fork (A f) size (take keep bs) changed) i))
 
     pub cut-leaves : (changed has keep start : ℕ) (x y z : List ℕ) → has ≡ g .physical / A f → keep ≡ fewest size (A f)

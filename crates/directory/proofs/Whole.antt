@@ -13,7 +13,8 @@ use Rattle.directory.specs.declared.Cursor.{Cursor}
 use Rattle.model.specs.declared.LogicalBlock.{LogicalBlock}
 use Rattle.directory.specs.Cursor.{restOf, CursorFits, Passes, Begins}
 
-pub begins-fits : (image : List ℕ) (start : LogicalBlock) (blocks : ℕ) (c : Cursor) → Begins start blocks c → 512 * (start .0 + blocks) ≤ length image → CursorFits image c
+pub begins-fits : (image : List ℕ) (start : LogicalBlock) (blocks : ℕ) (c : Cursor) → Begins start blocks c
+    → 512 * (start .0 + blocks) ≤ length image → CursorFits image c
 begins-fits image start blocks c b h = record { blocks = omega arith; place = omega arith }
 
 module _ (image : List ℕ) (c : Cursor) (b : Begins (dirStart (factsOf image)) (dirLength (factsOf image)) c) where

@@ -123,7 +123,8 @@ module _ (n : ℕ) (image : List ℕ) where
     files-facts =
         let c = counts-in image in
         counts-facts (withFiles n image) image n (nextNumber (factsOf image)) (freeCount (factsOf image)) files-length
-        (λ j p q. sets-before (bytes16 n) image 1036 j q) (λ j p q. sets-behind (bytes16 n) image 1036 j p) (λ j p q. sets-behind (bytes16 n) image 1036 j (omega arith))
+        (λ j p q. sets-before (bytes16 n) image 1036 j q) (λ j p q. sets-behind (bytes16 n) image 1036 j p)
+        (λ j p q. sets-behind (bytes16 n) image 1036 j (omega arith))
         (be16-sets image 1036 n (omega arith))
         (be32-same (withFiles n image) image 1054 (λ j p q. sets-behind (bytes16 n) image 1036 j (omega arith)) ∙ c .1)
         (be16-same (withFiles n image) image 1058 (λ j p q. sets-behind (bytes16 n) image 1036 j (omega arith)) ∙ c .2)

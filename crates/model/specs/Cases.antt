@@ -108,7 +108,8 @@ ring = withBytes 1092 (0x20 ∷ []) hall
 unfoldable pub info800 : ℕ → List ℕ
 info800 n =
     flat
-    ((0xd2 ∷ 0xd7 ∷ zeros 8) ∷ bytes16 0 ∷ bytes16 0 ∷ bytes16 4 ∷ bytes16 12 ∷ bytes16 n ∷ bytes32 1024 ∷ bytes32 0 ∷ bytes16 16 ∷ bytes32 1 ∷ bytes16 n ∷ zeros 28 ∷ [])
+    ((0xd2 ∷ 0xd7 ∷ zeros 8) ∷ bytes16 0 ∷ bytes16 0 ∷ bytes16 4 ∷ bytes16 12 ∷ bytes16 n ∷ bytes32 1024 ∷ bytes32 0 ∷ bytes16 16
+    ∷ bytes32 1 ∷ bytes16 n ∷ zeros 28 ∷ [])
 
 -- ---- Rows
 
