@@ -1,4 +1,4 @@
--- More worked cases: each is computed from the definitions, and its whole answer and image are compared.
+-- More worked cases: each is computed from the definitions, and its whole answer and image are compared; limits of checks 1 and 3.
 use Prim.Native.Nat.{ℕ, _*_}
 use mathlib.Core.Path.{_≡_}
 use mathlib.Core.Bool.{Bool, true, false}

@@ -1,4 +1,5 @@
-// A named file of an accepted volume: found, and its locks. The answers of the calls, and the zeros that a refusal gives.
+// A named file of an accepted volume: found, its locks, and whether it or a fork of it may be changed. The answers of the calls,
+// and the zeros that a refusal gives.
 mod answers;
 mod locks;
 mod searching;

@@ -4,7 +4,6 @@ use Prim.Native.Nat.{ℕ, _+_, _-_, _≤_, _<_}
 use mathlib.Core.Path.{_≡_, refl, sym, ap, subst, _∙_}
 use mathlib.Core.Bool.{Bool, true, false, not, _&&_, cond}
 use mathlib.Core.List.{List, [], _∷_, _++_, append-assoc, append-nil}
-use mathlib.Core.Logic.{_⊎_, inl}
 use native.Mathlib.Omega.{arith}
 use lib.ListN.{length, drop, length-append}
 use lib.Seq.{drop-length}
@@ -22,18 +21,18 @@ use Rattle.model.specs.Calls.Call.{read, write, delete}
 use Rattle.history.specs.History.{File, History, blocksOf, noFile, heldOf, called, fileCalled, knownTo, declines, writes}
 use Rattle.model.specs.Bytes.{overwritten}
 use Rattle.history.specs.History.{changedFork, onCalled, moves, step, Told, toldBy, toldOnly, says, tells, filesIn, reading, Agrees, Event, Run}
-use Rattle.history.specs.History.{is18, asked, changes, datesGiven, RoomRule, InStep, Holds, EveryRun}
+use Rattle.history.specs.History.{is18, asked, changes, RoomRule, InStep, Holds, EveryRun}
 use Rattle.history.specs.Among.{HasFile, lastImage}
 use Rattle.history.specs.Untouched.{NoneNames, Untouched}
 use Rattle.history.specs.Deleting.{Deleting}
-use Rattle.history.specs.Dates.{Dates}
+use Rattle.history.specs.Dates.{touches, Dates}
 use Rattle.history.specs.Room.{Room}
 use Rattle.history.specs.InPieces.{Writes, InPieces}
 use Rattle.history.specs.ReadBack.{ReadBack}
 use Rattle.history.specs.EveryList.{made, AllFit, EveryList}
 use Rattle.model.specs.declared.Fork.{Fork}
 use Rattle.model.specs.declared.Fork.the-variants.{Data, Resource}
-use Rattle.model.proofs.Lists.{back}
+use Rattle.model.proofs.Lists.{back, so-not}
 use Rattle.model.proofs.Check.{else-zero}
 use Rattle.laws.proofs.Reorder.{any-map, passes-still, first-changed, In, in-reordered}
 use Rattle.laws.proofs.Content.{length-overwritten, more-bytes, length-on}
@@ -41,7 +40,7 @@ use Rattle.laws.proofs.MapChecks.{all-blocks}
 use Rattle.laws.proofs.Acceptance.{map-passes}
 use Rattle.history.proofs.Answers.{rise-needed, same-free, known-same}
 use Rattle.history.proofs.Reading.{blocks-of}
-use Rattle.history.proofs.Lawful.{lawful}
+use Rattle.history.proofs.Lawful.{Dated, lawful}
 use Rattle.history.proofs.Run.{every-run}
 
 -- the claim on a list of one event
@@ -80,24 +79,6 @@ deleting image name left given x acc m n i =
     let e : Event = record { call = delete name; given = given; left = left } in
     untouched image (e ∷ []) x acc (m, tt) i (n, tt)
 
--- ---- Dates
-
--- a file of the history after a call was there before, or it has the dates that the call gives it
-step-dates : (h : History) (full : Bool) (call : Call) (x : File) → In noFile x (step h full call .files)
-    → In noFile x (h .files) ⊎ datesGiven call (λ y. In noFile y (h .files)) x
-unfolding step
-step-dates h full call x = go (eqb (declines h full call) 0)
-  where
-    go : (b : Bool) → In noFile x (cond b (moves h call) h .files) → In noFile x (h .files) ⊎ datesGiven call (λ y. In noFile y (h .files)) x
-    go true i = lawful call .dates h x i
-    go false i = inl i
-
-pub dates : Dates
-unfolding Dates reading
-dates image left call given x acc m i =
-    let e : Event = record { call = call; given = given; left = left } in
-    step-dates (reading image) (is18 e) call x (in-reordered noFile x (one-step e image acc m .agrees .files) i)
-
 -- ---- Room
 
 only-full : (image name : List ℕ) (fork : Fork) (offset : ℕ) (bytes : List ℕ) (changed : ℕ) (given : Answer) (left : List ℕ)
@@ -127,7 +108,7 @@ pub room : Room
 unfolding Room
 room = (only-full, none-hidden)
 
--- ---- InPieces and ReadBack
+-- ---- numbers
 
 -- a call's number is the history's
 told-number : (h : History) (full : Bool) (n : ℕ) (call : Call) → tells h full n call .number ≡ declines h full call
@@ -141,6 +122,30 @@ told-number h full n call = go (declines h full call) (eqb (declines h full call
 declined : (e : Event) (image : List ℕ) (h : History) → InStep e image h → e .given .number ≡ declines h (is18 e) (e .call)
 unfolding toldBy
 declined e image h s = ap (λ (t : Told). t .number) (s .told) ∙ told-number h (is18 e) (asked image (e .call)) (e .call)
+
+-- ---- Dates
+
+-- a file of the history after a call that gives this number
+step-dates : (h : History) (full : Bool) (call : Call) (x : File) (number : ℕ) → number ≡ declines h full call → In noFile x (step h full call .files)
+    → Dated call h x (eqb number 0 && (changes call && called (nameOf call) x))
+unfolding step
+step-dates h full call x number n i =
+    go (eqb (declines h full call) 0) refl i
+  where
+    go : (b : Bool) → eqb (declines h full call) 0 ≡ b → In noFile x (cond b (moves h call) h .files)
+        → Dated call h x (eqb number 0 && (changes call && called (nameOf call) x))
+    go true e j = rw (n, e) (lawful call .dates h full x (eqb-true (declines h full call) 0 e) j)
+    go false e j = rw (n, e) (λ f. j, λ t. absurd (so-not false refl t))
+
+pub dates : Dates
+unfolding Dates touches reading
+dates image left call given x acc m i =
+    let e : Event = record { call = call; given = given; left = left } in
+    let s = one-step e image acc m in
+    let h = reading image in
+    step-dates h (is18 e) call x (given .number) (declined e image h s) (in-reordered noFile x (s .agrees .files) i)
+
+-- ---- InPieces and ReadBack
 
 -- one fork of one file
 module _ (name : List ℕ) (fork : Fork) where

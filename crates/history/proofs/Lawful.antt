@@ -7,7 +7,7 @@ use mathlib.Core.List.{List, [], _∷_, _++_, map}
 use mathlib.Core.Logic.{_⊎_, inl, inr}
 use lib.ListN.{length}
 use lib.Dec.{eqb, leb, ltb}
-use borrow.Author.Tests.{not-false, ltb-true, ltb-false, lt-ltb, le-ltb}
+use borrow.Author.Tests.{not-true, not-false, ltb-true, ltb-false, lt-ltb, le-ltb}
 use Rattle.model.specs.Bytes.{Bytes}
 use Rattle.model.specs.Check.{Accepted}
 use Rattle.model.specs.Calls.{Call, nameOf, forkGiven, Known, grown, needed, badName, refuses, refusal, change, only, reply, after, Fits}
@@ -15,7 +15,13 @@ use Rattle.model.specs.Calls.{Answer, tellsFacts, tellsEntry, tellsBlock, tells
 use Rattle.model.specs.Calls.Call.{check, entry, find, block, read, create, write, cut, delete}
 use Rattle.history.specs.History.{File, History, noFile, heldOf, called, fileCalled, knownTo, declines, onCalled, Told, toldBy, toldOnly}
 use Rattle.history.specs.History.{Held, newFile, changedFork, dateChanged, datesGiven, says, moves, asked, changes, RoomRule, Agrees}
+use Rattle.model.specs.Lists.{any}
+use Rattle.model.specs.Facts.{nextNumber}
 use Rattle.model.specs.declared.Fork.{Fork}
+use Rattle.model.specs.declared.Fork.the-variants.{Data}
+use Rattle.model.proofs.Lists.{so-not, any-at}
+use Rattle.model.proofs.Names.{same-name-refl}
+use Rattle.model.proofs.Check.{else-zero}
 use Rattle.laws.proofs.Reorder.{In, in-map, in-keep, in-append, from-last, from-map, from-keep}
 use Rattle.laws.proofs.Refusals.{no-check, other, other-found, other-change, past, fires, withFull, create-fed, create-never}
 use Rattle.history.proofs.Answers.{rise-needed, only-told, check-says, entry-says, find-says, read-says}
@@ -24,6 +30,10 @@ use Rattle.history.proofs.Creates.{create-done}
 use Rattle.history.proofs.Writes.{write-done}
 use Rattle.history.proofs.Cuts.{cut-done}
 use Rattle.history.proofs.Deletes.{delete-done}
+
+-- a file of the history after a call: it was there before where the call does not touch it, and has the call's dates where it does
+abbrev pub Dated : Call → History → File → Bool → Type 0
+Dated call h x touched = (touched ≡ false → In noFile x (h .files)) × (touched ≡ true → datesGiven call (λ y. In noFile y (h .files)) x)
 
 pub record Lawful (call : Call) : Type 0 where
   -- a success has the number 0, and the history says so
@@ -44,15 +54,15 @@ pub record Lawful (call : Call) : Type 0 where
   -- a file that it does not change by name stays in the history
   pub keeps : (h : History) (x : File) → (changes call && called (nameOf call) x) ≡ false → In noFile x (h .files)
       → In noFile x (moves h call .files)
-  -- a file of the history was there before, or it has the dates that the call gives it
-  pub dates : (h : History) (x : File) → In noFile x (moves h call .files)
-      → In noFile x (h .files) ⊎ datesGiven call (λ y. In noFile y (h .files)) x
+  -- not refused, it leaves a file that it does not change by name as it was, and gives the other its dates
+  pub dates : (h : History) (full : Bool) (x : File) → declines h full call ≡ 0 → In noFile x (moves h call .files)
+      → Dated call h x (changes call && called (nameOf call) x)
 
 -- ---- calls that change nothing
 
 -- what the definitions say of every such call: image and history stay, a success has the number 0, and no refusal asks for room
 abbrev Unmoved : Type 0
-Unmoved = (List ℕ → List ℕ) × (History → History) × (List ℕ → ℕ) × (History → ℕ → ℕ) × (Known → Bool → ℕ)
+Unmoved = (List ℕ → List ℕ) × (History → History) × (List ℕ → ℕ) × (History → ℕ → ℕ) × (Known → Bool → ℕ) × Bool
 
 abbrev Reads : Call → Type 0
 Reads call =
@@ -62,8 +72,9 @@ Reads call =
       λ image. reply call image .number,
       λ h n. says h n call .number,
       λ k full. refuses call (withFull k full),
+      changes call,
     )
-    (λ image. image, λ h. h, λ image. 0, λ h n. 0, λ k full. refuses call k)
+    (λ image. image, λ h. h, λ image. 0, λ h n. 0, λ k full. refuses call k, false)
 
 either-way : (t : Bool) (image : List ℕ) → cond t image image ≡ image
 either-way true image = refl
@@ -90,7 +101,9 @@ reads call d room told =
           let l = leaves image in
           record { bytes = rw l b; accepted = rw l acc; agrees = rw (l, keeps h) a; kept = rw l (stays call image) };
       keeps = λ h x n i. subst (λ (g : History). In noFile x (g .files)) (sym (keeps h)) i;
-      dates = λ h x i. inl (subst (λ (g : History). In noFile x (g .files)) (keeps h) i);
+      dates = λ h full x z i.
+          let still : changes call ≡ false = ap (λ (t : Unmoved). t .5) d in
+          rw still (λ n. subst (λ (g : History). In noFile x (g .files)) (keeps h) i, λ t. absurd (so-not false refl t));
     }
 
 -- ---- calls that change the image
@@ -107,7 +120,7 @@ alters : (call : Call) → Alters call
     → ((h : History) (full : Bool) → RoomRule h call (declines h full call))
     → ((image : List ℕ) (h : History) → Accepted image → Agrees image h → Bytes image → Fits call → refusal call image ≡ 0 → Done call image h)
     → ((h : History) (x : File) → (changes call && called (nameOf call) x) ≡ false → In noFile x (h .files) → In noFile x (moves h call .files))
-    → ((h : History) (x : File) → In noFile x (moves h call .files) → In noFile x (h .files) ⊎ datesGiven call (λ y. In noFile y (h .files)) x)
+    → ((h : History) (full : Bool) (x : File) → declines h full call ≡ 0 → In noFile x (moves h call .files) → Dated call h x (called (nameOf call) x))
     → Lawful call
 unfolding after only toldOnly
 alters call d fed room done keeps dates =
@@ -125,7 +138,7 @@ alters call d fed room done keeps dates =
       told = λ image h acc a z. ap toldBy (number image) ∙ only-told 0 [] ∙ sym (say h (asked image call));
       done = done;
       keeps = keeps;
-      dates = dates;
+      dates = λ h full x z i. rw changing (dates h full x z i);
     }
 
 -- a write gives 17 exactly where it needs more new blocks than are free
@@ -163,36 +176,64 @@ not-called : (name : List ℕ) (f : File → File) (x : File) → called name x 
 unfolding onCalled
 not-called name f x n = rw n
 
--- the file that a create adds has the dates given
-created-dates : (name finder : List ℕ) (made changed number : ℕ) (fs : List File) (x : File)
-    → In noFile x (fs ++ (newFile number name finder made changed ∷ []))
-    → In noFile x fs ⊎ ((x .name ≡ name) × (x .created ≡ made) × (x .changed ≡ changed))
-unfolding newFile
-created-dates name finder made changed number fs x i = go (from-last noFile x fs (newFile number name finder made changed) i)
-  where
-    go : In noFile x fs ⊎ (newFile number name finder made changed ≡ x)
-        → In noFile x fs ⊎ ((x .name ≡ name) × (x .created ≡ made) × (x .changed ≡ changed))
-    go (inl j) = inl j
-    go (inr e) = inr (sym (ap (λ (y : File). y .name) e), sym (ap (λ (y : File). y .created) e), sym (ap (λ (y : File). y .changed) e))
+-- the file that a create adds is the only one of its name, and has the dates given
+module _ (name finder : List ℕ) (made changed : ℕ) (h : History) (x : File) where
+  abbrev added : File
+  added = newFile (nextNumber (h .facts)) name finder made changed
+
+  fresh : (full : Bool) → declines h full (create name finder made changed) ≡ 0 → any (called name) (h .files) ≡ false
+  unfolding declines refuses knownTo nameOf forkGiven
+  fresh full z =
+      let k = knownTo h full name Data in
+      else-zero (k .exists) 13 _ (else-zero (badName name) 11 _ (else-zero (k .locked) 10 _ z .1) .1) .0
+
+  added-dates : added ≡ x → Dated (create name finder made changed) h x (called name x)
+  unfolding datesGiven called newFile
+  added-dates e =
+      let its : called name x ≡ true = subst (λ (y : File). called name y ≡ true) e (same-name-refl name) in
+      (λ n. absurd (so-not (called name x) n its), λ t. (sym (ap (λ (y : File). y .created) e), sym (ap (λ (y : File). y .changed) e)))
+
+  created-dates : (full : Bool) → declines h full (create name finder made changed) ≡ 0
+      → In noFile x (moves h (create name finder made changed) .files) → Dated (create name finder made changed) h x (called name x)
+  unfolding moves
+  created-dates full z i = go (from-last noFile x (h .files) added i)
+    where
+      go : In noFile x (h .files) ⊎ (added ≡ x) → Dated (create name finder made changed) h x (called name x)
+      go (inl j) =
+          let there = any-at (called name) noFile (h .files) (fresh full z) (j .0) (j .1) in
+          let other : called name x ≡ false = subst (λ (y : File). called name y ≡ false) (j .2) there in
+          (λ n. j, λ t. absurd (so-not (called name x) other t))
+      go (inr e) = added-dates e
 
 -- the file whose fork a write or a cut changes has the date of change given, and its own date of creation
 changed-dates : (name : List ℕ) (fork : Fork) (f : Held → Held) (changed : ℕ) (fs : List File) (x : File)
     → In noFile x (map (onCalled name (changedFork fork f changed)) fs)
-    → In noFile x fs ⊎ dateChanged name changed (λ y. In noFile y fs) x
+    → (called name x ≡ false → In noFile x fs) × (called name x ≡ true → dateChanged changed (λ y. In noFile y fs) x)
 unfolding onCalled changedFork called
 changed-dates name fork f changed fs x i =
     let s = from-map noFile x (onCalled name (changedFork fork f changed)) fs i in
     go (s .0) (s .1) (called name (s .0)) refl (s .2)
   where
     go : (y : File) → In noFile y fs → (b : Bool) → called name y ≡ b → cond b (changedFork fork f changed y) y ≡ x
-        → In noFile x fs ⊎ dateChanged name changed (λ y. In noFile y fs) x
+        → (called name x ≡ false → In noFile x fs) × (called name x ≡ true → dateChanged changed (λ y. In noFile y fs) x)
     go y j true c e =
-        inr (
-          subst (λ (z : File). called name z ≡ true) e c,
-          sym (ap (λ (z : File). z .changed) e),
-          (y, j, ap (λ (z : File). z .number) e, ap (λ (z : File). z .created) e),
+        let its : called name x ≡ true = subst (λ (z : File). called name z ≡ true) e c in (
+          λ n. absurd (so-not (called name x) n its),
+          λ t. (
+            sym (ap (λ (z : File). z .changed) e),
+            (y, j, ap (λ (z : File). z .number) e, ap (λ (z : File). z .name) e, ap (λ (z : File). z .created) e),
+          ),
         )
-    go y j false c e = inl (subst (λ (z : File). In noFile z fs) e j)
+    go y j false c e =
+        let other : called name x ≡ false = subst (λ (z : File). called name z ≡ false) e c in
+        (λ n. subst (λ (z : File). In noFile z fs) e j, λ t. absurd (so-not (called name x) other t))
+
+-- no file of the name is left after a delete
+deleted-dates : (name : List ℕ) (h : History) (x : File) → In noFile x (moves h (delete name) .files) → Dated (delete name) h x (called name x)
+unfolding moves
+deleted-dates name h x i =
+    let s = from-keep noFile x (λ y. not (called name y)) (h .files) i in
+    (λ n. s .0, λ t. absurd (so-not (called name x) (not-true _ (s .1)) t))
 
 -- ---- the calls
 
@@ -221,22 +262,22 @@ lawful (create name finder made changed) =
     (never (create name finder made changed) (create-never name finder made changed))
     (create-done name finder made changed)
     (λ h x n i. in-append noFile x (h .files) _ i)
-    (λ h x. created-dates name finder made changed _ (h .files) x)
+    (λ h full x. created-dates name finder made changed h x full)
 lawful (write name fork offset bytes changed) =
     alters (write name fork offset bytes changed) refl (λ k. refl)
     (write-room name fork offset bytes changed)
     (write-done name fork offset bytes changed)
     (λ h x n i. in-map noFile x _ (not-called name _ x n) (h .files) i)
-    (λ h x. changed-dates name fork _ changed (h .files) x)
+    (λ h full x z. changed-dates name fork _ changed (h .files) x)
 lawful (cut name fork size changed) =
     alters (cut name fork size changed) refl (λ k. refl)
     (never (cut name fork size changed) (λ k. other-change name k (other (ltb (k .logical) size) 16 refl no-check)))
     (cut-done name fork size changed)
     (λ h x n i. in-map noFile x _ (not-called name _ x n) (h .files) i)
-    (λ h x. changed-dates name fork _ changed (h .files) x)
+    (λ h full x z. changed-dates name fork _ changed (h .files) x)
 lawful (delete name) =
     alters (delete name) refl (λ k. refl)
     (never (delete name) (λ k. other-change name k no-check))
     (delete-done name)
     (λ h x n i. in-keep noFile x (λ y. not (called name y)) (rw n) (h .files) i)
-    (λ h x i. inl (from-keep noFile x (λ y. not (called name y)) (h .files) i))
+    (λ h full x z. deleted-dates name h x)

@@ -1,15 +1,21 @@
 -- For the auditor: no call makes up a date.
 use Prim.Native.Nat.{ℕ}
+use mathlib.Core.Path.{_≡_}
+use mathlib.Core.Bool.{Bool, true, false, _&&_}
 use mathlib.Core.List.{List}
-use mathlib.Core.Logic.{_⊎_}
+use lib.Dec.{eqb}
 use Rattle.model.specs.Check.{Accepted}
-use Rattle.model.specs.Calls.{Call, Answer, Does}
-use Rattle.history.specs.History.{File, datesGiven}
+use Rattle.model.specs.Calls.{Call, Answer, nameOf, Does}
+use Rattle.history.specs.History.{File, called, changes, datesGiven}
 use Rattle.history.specs.Among.{HasFile}
 
--- After a call each file was on the image before, dates and all, or is the one that a create, write or cut names: it has the dates
--- that this call was given, and after a write or a cut the date of creation that it had.
+-- the call was not refused, and changes the file of this name
+unfoldable pub touches : Call → Answer → File → Bool
+touches call given x = eqb (given .number) 0 && (changes call && called (nameOf call) x)
+
+-- After a call each file that it did not touch is one that was there before, dates and all; the file that it touched has the dates
+-- that the call was given.
 unfoldable pub Dates : Type 0
 Dates =
     (image left : List ℕ) (call : Call) (given : Answer) (x : File) → Accepted image → Does call image given left → HasFile left x
-    → HasFile image x ⊎ datesGiven call (HasFile image) x
+    → (touches call given x ≡ false → HasFile image x) × (touches call given x ≡ true → datesGiven call (HasFile image) x)

@@ -226,8 +226,8 @@ pub record NoRoom (h : History) (name : List ℕ) (fork : Fork) (offset : ℕ) (
 
 -- ---- How each call is followed
 
--- one clause for each call in `following`: what the history does and tells where the call is not refused, and what the claim
--- on every run asks of the image
+-- one clause for each call in `following`: what the history does and tells where the call is not refused, what the claim on every
+-- run asks of the image, and what the auditor asks
 pub record Following : Type 1 where
   -- its step
   pub moves : History → History
@@ -242,7 +242,7 @@ pub record Following : Type 1 where
   pub directories : ℕ
   -- when its number is 17
   pub room : History → ℕ → Type 0
-  -- the dates that it gives to a file that it made or changed; `was` says which files were there before
+  -- for the auditor: the dates that it gives to the file of its name; `was` says which files were there before
   pub dates : (File → Type 0) → File → Type 0
 
 -- the blocks that an image gives to the named fork
@@ -283,10 +283,10 @@ alters moves blocks room dates = record {
   dates = dates;
 }
 
--- the file of that name has the date of change as given, and the number and the date of creation that it had
-abbrev pub dateChanged : List ℕ → ℕ → (File → Type 0) → File → Type 0
-dateChanged name changed was x =
-    (called name x ≡ true) × (x .changed ≡ changed) × ((y : File) × was y × (y .number ≡ x .number) × (y .created ≡ x .created))
+-- the file has the date of change as given, and the number, name and date of creation that it had
+abbrev pub dateChanged : ℕ → (File → Type 0) → File → Type 0
+dateChanged changed was x =
+    (x .changed ≡ changed) × ((y : File) × was y × (y .number ≡ x .number) × (y .name ≡ x .name) × (y .created ≡ x .created))
 
 -- no file is asked by its place
 abbrev noPlace : List ℕ → ℕ
@@ -325,18 +325,18 @@ following (create name finder created changed) = alters
     })
     (λ image. [])
     never17
-    (λ was x. (x .name ≡ name) × (x .created ≡ created) × (x .changed ≡ changed))
+    (λ was x. (x .created ≡ created) × (x .changed ≡ changed))
 -- A write that passes the checks before 17 gets 17 exactly when it needs more new blocks than are free.
 following (write name fork offset bytes changed) = alters
     (λ h. record { facts = h .facts; files = map (onCalled name (changedFork fork (writes (A (h .facts)) offset bytes) changed)) (h .files) })
     (λ image. blocksNamed image name fork)
     (λ h number. (number ≡ 17) ↔ NoRoom h name fork offset bytes)
-    (dateChanged name changed)
+    (dateChanged changed)
 following (cut name fork size changed) = alters
     (λ h. record { facts = h .facts; files = map (onCalled name (changedFork fork (cuts (A (h .facts)) size) changed)) (h .files) })
     (λ image. blocksNamed image name fork)
     never17
-    (dateChanged name changed)
+    (dateChanged changed)
 -- Delete drops the file.
 following (delete name) = alters
     (λ h. record { facts = h .facts; files = keep (λ x. not (called name x)) (h .files) })

@@ -21,7 +21,7 @@ pub fn untouched()
     ensures { λ _. ⌜ Untouched ⌝ }
 {}
 
-// A call leaves each file's dates as they were, and gives the file that it makes or changes the dates that it was given.
+// A file that a call did not touch keeps its dates; the one that it made or changed has the dates that the call was given.
 pub fn dates()
     ensures { λ _. ⌜ Dates ⌝ }
 {}

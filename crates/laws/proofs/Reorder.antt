@@ -319,13 +319,16 @@ module _ {A : Type 0} (d x : A) where
       go (z ∷ xs) zero l e = (z, (0, omega arith, refl), e)
       go (z ∷ xs) (suc i) l e = let s = go xs i (omega arith) e in (s .0, later d (s .0) z xs (s .1), s .2)
 
-  pub from-keep : (p : A → Bool) (xs : List A) → In d x (keep p xs) → In d x xs
+  pub from-keep : (p : A → Bool) (xs : List A) → In d x (keep p xs) → In d x xs × (p x ≡ true)
   unfolding keep
-  from-keep p [] h = h
-  from-keep p (y ∷ xs) h = go (p y) (from-keep p xs) (h .0) (h .1) (h .2)
+  from-keep p [] h = absurd (omega (arith, h .1))
+  from-keep p (y ∷ xs) h = go (p y) refl (from-keep p xs) (h .0) (h .1) (h .2)
     where
-      go : (b : Bool) → (In d x (keep p xs) → In d x xs) → (i : ℕ) → i < length (cond b (y ∷ keep p xs) (keep p xs))
-          → getD (cond b (y ∷ keep p xs) (keep p xs)) i d ≡ x → In d x (y ∷ xs)
-      go true from zero l e = (0, omega arith, e)
-      go true from (suc i) l e = later d x y xs (from (i, omega arith, e))
-      go false from i l e = later d x y xs (from (i, l, e))
+      on : In d x xs × (p x ≡ true) → In d x (y ∷ xs) × (p x ≡ true)
+      on s = (later d x y xs (s .0), s .1)
+
+      go : (b : Bool) → p y ≡ b → (In d x (keep p xs) → In d x xs × (p x ≡ true)) → (i : ℕ) → i < length (cond b (y ∷ keep p xs) (keep p xs))
+          → getD (cond b (y ∷ keep p xs) (keep p xs)) i d ≡ x → In d x (y ∷ xs) × (p x ≡ true)
+      go true q from zero l e = ((0, omega arith, e), ap p (sym e) ∙ q)
+      go true q from (suc i) l e = on (from (i, omega arith, e))
+      go false q from i l e = on (from (i, l, e))

@@ -1,5 +1,5 @@
-// The calls on a volume. Each checks the image itself, and states its answer and every byte that it leaves. Then what they owe
-// together, in any list.
+// The calls on a volume. Each checks the image itself, and states its answer and every byte that it leaves. `make_call` ties them
+// to the claim on every list of calls.
 mod answer_of;
 mod changing;
 mod checking;
