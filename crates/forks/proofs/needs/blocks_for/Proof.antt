@@ -2,8 +2,8 @@
 use mathlib.Core.Path.{refl}
 use borrow.Author.Needs.{needs}
 use Rattle.model.specs.Calls.{fewest}
-use Rattle.forks.proofs.growth.blocks_for.Statement.{statement}
-use Rattle.forks.proofs.growth.blocks_for.Tie as tie
+use Rattle.forks.proofs.needs.blocks_for.Statement.{statement}
+use Rattle.forks.proofs.needs.blocks_for.Tie as tie
 
 sub-result : tie.Need-sub-result
 sub-result c = search needs

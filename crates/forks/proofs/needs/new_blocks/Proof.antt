@@ -6,8 +6,8 @@ use native.Mathlib.Nat.{div-le-self}
 use Rattle.model.specs.Directory.{blockCount}
 use Rattle.model.specs.Calls.{fewest, newBlocks}
 use Rattle.forks.proofs.Growing.{new-blocks, too-many, grows, grows-not}
-use Rattle.forks.proofs.growth.new_blocks.Statement.{statement}
-use Rattle.forks.proofs.growth.new_blocks.Tie as tie
+use Rattle.forks.proofs.needs.new_blocks.Statement.{statement}
+use Rattle.forks.proofs.needs.new_blocks.Tie as tie
 
 returns : tie.Need-returns
 returns c =

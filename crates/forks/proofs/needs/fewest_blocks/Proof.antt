@@ -2,8 +2,8 @@
 use native.Mathlib.Omega.{arith}
 use borrow.Author.Needs.{needs}
 use Rattle.forks.proofs.Growing.{fewest-most}
-use Rattle.forks.proofs.growth.fewest_blocks.Statement.{statement}
-use Rattle.forks.proofs.growth.fewest_blocks.Tie as tie
+use Rattle.forks.proofs.needs.fewest_blocks.Statement.{statement}
+use Rattle.forks.proofs.needs.fewest_blocks.Tie as tie
 
 blocks-for-requires : tie.Need-blocks-for-requires
 blocks-for-requires c κs = search needs
