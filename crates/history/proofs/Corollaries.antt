@@ -137,13 +137,28 @@ step-dates h full call x number n i =
     go true e j = rw (n, e) (lawful call .dates h full x (eqb-true (declines h full call) 0 e) j)
     go false e j = rw (n, e) (λ f. j, λ t. absurd (so-not false refl t))
 
+-- a file that a call of that number does not touch stays
+step-stays : (h : History) (full : Bool) (call : Call) (x : File) (number : ℕ) → number ≡ declines h full call
+    → (eqb number 0 && (changes call && called (nameOf call) x)) ≡ false → In noFile x (h .files) → In noFile x (step h full call .files)
+unfolding step
+step-stays h full call x number n t i = go (eqb (declines h full call) 0) (rw n at t)
+  where
+    go : (b : Bool) → (b && (changes call && called (nameOf call) x)) ≡ false → In noFile x (cond b (moves h call) h .files)
+    go true u = lawful call .keeps h x u i
+    go false u = i
+
 pub dates : Dates
 unfolding Dates touches reading
-dates image left call given x acc m i =
+dates image left call given x acc m =
     let e : Event = record { call = call; given = given; left = left } in
     let s = one-step e image acc m in
     let h = reading image in
-    step-dates h (is18 e) call x (given .number) (declined e image h s) (in-reordered noFile x (s .agrees .files) i)
+    let n = declined e image h s in
+    let from : HasFile left x → Dated call h x (eqb (given .number) 0 && (changes call && called (nameOf call) x)) =
+    λ i. step-dates h (is18 e) call x (given .number) n (in-reordered noFile x (s .agrees .files) i) in (
+      λ t. (λ i. from i .0 t, λ i. in-reordered noFile x (back (s .agrees .files)) (step-stays h (is18 e) call x (given .number) n t i)),
+      λ t i. from i .1 t,
+    )
 
 -- ---- InPieces and ReadBack
 

@@ -3,6 +3,7 @@ use Prim.Native.Nat.{ℕ}
 use mathlib.Core.Path.{_≡_}
 use mathlib.Core.Bool.{Bool, true, false, _&&_}
 use mathlib.Core.List.{List}
+use mathlib.Core.Logic.{_↔_}
 use lib.Dec.{eqb}
 use Rattle.model.specs.Check.{Accepted}
 use Rattle.model.specs.Calls.{Call, Answer, nameOf, Does}
@@ -13,9 +14,10 @@ use Rattle.history.specs.Among.{HasFile}
 unfoldable pub touches : Call → Answer → File → Bool
 touches call given x = eqb (given .number) 0 && (changes call && called (nameOf call) x)
 
--- After a call each file that it did not touch is one that was there before, dates and all; the file that it touched has the dates
--- that the call was given.
+-- The files that a call does not touch are the same after it as before, dates and all; a file that it touched and left has the
+-- dates that the call was given.
 unfoldable pub Dates : Type 0
 Dates =
-    (image left : List ℕ) (call : Call) (given : Answer) (x : File) → Accepted image → Does call image given left → HasFile left x
-    → (touches call given x ≡ false → HasFile image x) × (touches call given x ≡ true → datesGiven call (HasFile image) x)
+    (image left : List ℕ) (call : Call) (given : Answer) (x : File) → Accepted image → Does call image given left
+    → (touches call given x ≡ false → (HasFile left x ↔ HasFile image x))
+    × (touches call given x ≡ true → HasFile left x → datesGiven call (HasFile image) x)

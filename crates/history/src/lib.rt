@@ -21,7 +21,8 @@ pub fn untouched()
     ensures { λ _. ⌜ Untouched ⌝ }
 {}
 
-// A file that a call did not touch keeps its dates; the one that it made or changed has the dates that the call was given.
+// The files that a call does not touch are the same after it, dates and all; the one that it made or changed has the dates that the
+// call was given.
 pub fn dates()
     ensures { λ _. ⌜ Dates ⌝ }
 {}
