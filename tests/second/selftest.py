@@ -251,30 +251,36 @@ def compare(image, history, m):
     same(facts.free + fork_blocks, facts.blocks, 'free and used blocks')
 
 
-def one_run(rng, m, calls, seen):
-    image = m.image()
-    history, twin = History(m), Twin(m)
-    compare(image, history, m)
-    for _ in range(calls):
-        call = chooser.choose(rng, history.state(), KINDS)
+class Run:
+    """An image, its history and the plain lists, held to each other at every
+    call."""
+
+    def __init__(self, m):
+        self.m = m
+        self.image = m.image()
+        self.history, self.twin = History(m), Twin(m)
+        compare(self.image, self.history, m)
+
+    def call(self, *call):
+        """Makes a call and gives its number."""
+        image, m, history, twin = self.image, self.m, self.history, self.twin
         before = bytes(image)
         no_room = call[0] == 'N' and twin.no_room(call[1])
         number, results = carry_out(image, call)
         want = history.step(call, no_room)
         same(number, want, call)
-        seen[call[0], number] = seen.get((call[0], number), 0) + 1
         if number:
             same(bytes(image), before, 'a refused call changed the image')
             if call[0] == 'R':
                 same(results, (0, b'\xEE' * call[4]), 'refused read')
             else:
                 same(results, ZEROS[call[0]], 'refused call')
-            continue
+            return number
         if call[0] in 'NWUD':
             twin.change(call)
             same(bytes(image) == bytes(m.image()), True, call)
             compare(image, history, m)
-            continue
+            return 0
         same(bytes(image), before, 'a reading call changed the image')
         if call[0] == 'R':
             data = history.read(*call[1:])
@@ -289,6 +295,15 @@ def one_run(rng, m, calls, seen):
             place, entry = results
             same(entry.name, m.files()[place].name, 'find')
             same(told(history.files[key(call[1])], entry), True, 'find')
+        return 0
+
+
+def one_run(rng, m, calls, seen):
+    run = Run(m)
+    for _ in range(calls):
+        call = chooser.choose(rng, run.history.state(), KINDS)
+        number = run.call(*call)
+        seen[call[0], number] = seen.get((call[0], number), 0) + 1
 
 
 class Runs(unittest.TestCase):
