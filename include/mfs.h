@@ -69,7 +69,9 @@ enum {
     /* no directory block has room for the entry */
     MFS_DIRECTORY_FULL = 18,
     /* the next file number is 4,294,967,295: no file can be created any more */
-    MFS_NO_FILE_NUMBER = 19
+    MFS_NO_FILE_NUMBER = 19,
+    /* the given name is longer than 31 bytes, which no new file may have; there is no 20 */
+    MFS_NAME_TOO_LONG = 21
 };
 
 /* A call's choice of fork. Every other number is taken for the resource fork. */
@@ -166,8 +168,9 @@ mfs_read_answer mfs_read(const uint8_t *image, size_t image_length, const uint8_
                          uint64_t offset, uint8_t *buffer, size_t buffer_length);
 
 /*
- * Creates an empty file with this name, these 16 bytes of Finder information and these dates.
- * Refusals: 1 to 10, 11, 12, 14, 19, 18.
+ * Creates an empty file with this name, these 16 bytes of Finder information and these dates. The name has at most 31 bytes; a
+ * file that is there may have a longer one, and every other call that is given a name takes it.
+ * Refusals: 1 to 10, 11, 12, 21, 14, 19, 18.
  */
 uint8_t mfs_create(uint8_t *image, size_t image_length, const uint8_t *name, size_t name_length, const uint8_t finder[16],
                    uint32_t created, uint32_t changed);

@@ -32,6 +32,7 @@ static uint8_t hall[HALL];  /* as it came */
 static uint8_t image[MOST]; /* the image that calls are made on */
 static uint8_t want[MOST];  /* what it is to be after them */
 static const uint8_t finder[16] = {'T', 'E', 'X', 'T', 'M', 'A', 'C', 'A', 1, 2, 3, 4, 5, 6, 7, 8};
+static uint8_t letters[256]; /* a name of any length: the letter n */
 static int good;
 
 /* ---- images */
@@ -94,16 +95,41 @@ static void large(unsigned blocks)
     put16(image + 1058, blocks);
 }
 
-/* A directory entry of 54 bytes for a file of 1,025 data bytes in two blocks of 1,024. */
-static void put_file(uint8_t *at, uint32_t number, unsigned first, const char *name)
+/* A directory entry for a file of 1,025 data bytes in two blocks of 1,024. */
+static void put_file(uint8_t *at, uint32_t number, unsigned first, const void *name, size_t size)
 {
     at[0] = 0x80;
     put32(at + 18, number);
     put16(at + 22, first);
     put32(at + 24, 1025);
     put32(at + 28, 2048);
-    at[50] = 2;
-    memcpy(at + 51, name, 2);
+    at[50] = (uint8_t)size;
+    memcpy(at + 51, name, size);
+}
+
+/* An 800-block volume of one file, in blocks 2 and 3, with a name of this size: create makes none above 31. */
+static void old_file(size_t size)
+{
+    large(391);
+    put16(image + 1036, 1);
+    put32(image + 1054, 2);
+    put16(image + 1058, 389);
+    memcpy(image + 1088, "\x00\x30\x01", 3);
+    put_file(image + 2048, 1, 2, letters, size);
+}
+
+/* HALL with four more entries of 82 bytes, the largest that create makes: 72 of 400 bytes are left. */
+static void fill_directory(void)
+{
+    uint8_t name[31];
+    uint8_t i;
+
+    memcpy(name, letters, sizeof name);
+    for (i = 0; i < 4; i++) {
+        name[0] = (uint8_t)('0' + i);
+        EXPECT(mfs_create(image, HALL, name, sizeof name, finder, 1, 2) == MFS_SUCCESS);
+    }
+    keep(HALL);
 }
 
 /* ---- answers, field by field: what stands between the fields is nothing */
@@ -212,6 +238,7 @@ static void all_refuse(size_t length, uint8_t number)
     refuses_block(length, WEEK1, 0, number);
     refuses_read(length, WEEK1, 0, number);
     refuses_create(length, THIRD, number);
+    refuses_create(length, letters, 32, number);
     refuses_write(length, WEEK1, 0, number);
     refuses_cut(length, WEEK1, 0, number);
     refuses_delete(length, WEEK1, number);
@@ -332,18 +359,77 @@ static void reads(void)
     EXPECT(r.number == MFS_SUCCESS && r.count == 0 && as_wanted(HALL));
 }
 
+/* A name of 4 bytes, and one of 31, the most that a new file may have. */
 static void creates(void)
 {
-    EXPECT(mfs_create(image, HALL, (const uint8_t *)"FOUR", 4, finder, 0x01020304, 0x05060708) == MFS_SUCCESS);
-    want[ENTRY3] = 0x80;
-    memcpy(want + ENTRY3 + 2, finder, 16);
-    put32(want + ENTRY3 + 18, 3);
-    put32(want + ENTRY3 + 42, 0x01020304);
-    put32(want + ENTRY3 + 46, 0x05060708);
-    memcpy(want + ENTRY3 + 50, "\4FOUR", 5);
-    put16(want + 1036, 3);
-    put32(want + 1054, 4);
-    EXPECT(as_wanted(HALL));
+    static const char *const names[2] = {"FOUR", "The longest name of a new file."};
+    int i;
+
+    for (i = 0; i < 2; i++) {
+        size_t size = strlen(names[i]);
+
+        start();
+        EXPECT(mfs_create(image, HALL, (const uint8_t *)names[i], size, finder, 0x01020304, 0x05060708) == MFS_SUCCESS);
+        want[ENTRY3] = 0x80;
+        memcpy(want + ENTRY3 + 2, finder, 16);
+        put32(want + ENTRY3 + 18, 3);
+        put32(want + ENTRY3 + 42, 0x01020304);
+        put32(want + ENTRY3 + 46, 0x05060708);
+        want[ENTRY3 + 50] = (uint8_t)size;
+        memcpy(want + ENTRY3 + 51, names[i], size);
+        put16(want + 1036, 3);
+        put32(want + 1054, 4);
+        EXPECT(as_wanted(HALL));
+    }
+}
+
+/* Old names above 31: told, found in another case, read, written, cut and deleted. */
+static void old_names(void)
+{
+    static const size_t sizes[3] = {32, 254, 255};
+    uint8_t capitals[255], buffer[1025];
+    int i;
+
+    memset(capitals, 'N', sizeof capitals);
+    for (i = 0; i < 3; i++) {
+        size_t size = sizes[i];
+        mfs_directory_entry d = {0x80, 0, {0}, 1, {2, 1025, 2048}, {0, 0, 0}, 0, 0, (uint8_t)size, {0}};
+        mfs_entry_answer e;
+        mfs_find_answer f;
+        mfs_read_answer r;
+
+        old_file(size);
+        memset(image + 8192, 0xa5, 2048);
+        keep(LARGE);
+        memcpy(d.name, letters, size);
+        EXPECT(mfs_check(image, LARGE).facts.files == 1);
+        e = mfs_entry(image, LARGE, 0);
+        EXPECT(e.number == MFS_SUCCESS && same_entry(e.entry, d));
+        f = mfs_find(image, LARGE, capitals, size);
+        EXPECT(f.number == MFS_SUCCESS && f.place == 0 && same_entry(f.entry, d));
+        refuses_find(LARGE, letters, size - 1, MFS_NOT_FOUND);
+        EXPECT(mfs_block(image, LARGE, letters, size, MFS_DATA_FORK, 1).block == 3);
+        r = mfs_read(image, LARGE, letters, size, MFS_DATA_FORK, 0, buffer, sizeof buffer);
+        EXPECT(r.number == MFS_SUCCESS && r.count == 1025 && memcmp(buffer, want + 8192, 1025) == 0 && as_wanted(LARGE));
+
+        EXPECT(mfs_write(image, LARGE, letters, size, MFS_DATA_FORK, 1023, finder, 2, 5) == MFS_SUCCESS);
+        memcpy(want + 8192 + 1023, finder, 2);
+        put32(want + 2048 + 46, 5);
+        EXPECT(as_wanted(LARGE));
+        EXPECT(mfs_cut(image, LARGE, capitals, size, MFS_DATA_FORK, 1024, 6) == MFS_SUCCESS);
+        memcpy(want + 1088, "\x00\x10\x00", 3);
+        put16(want + 1058, 390);
+        put32(want + 2048 + 24, 1024);
+        put32(want + 2048 + 28, 1024);
+        put32(want + 2048 + 46, 6);
+        EXPECT(as_wanted(LARGE));
+        EXPECT(mfs_delete(image, LARGE, letters, size) == MFS_SUCCESS);
+        memset(want + 1088, 0, 3);
+        put16(want + 1036, 0);
+        put16(want + 1058, 391);
+        memset(want + 2048, 0, 512);
+        EXPECT(as_wanted(LARGE));
+    }
 }
 
 /* 0 is the data fork; 1 and every number above it is the resource fork. */
@@ -392,8 +478,8 @@ static void p1(void)
     put16(image + 1036, 2);
     put32(image + 1054, 3);
     put16(image + 1058, 387);
-    put_file(image + 2048, 1, 2, "XX");
-    put_file(image + 2048 + 54, 2, 3, "YY");
+    put_file(image + 2048, 1, 2, "XX", 2);
+    put_file(image + 2048 + 54, 2, 3, "YY", 2);
     EXPECT(mfs_check(image, LARGE).number == MFS_SUCCESS);
     EXPECT(mfs_block(image, LARGE, (const uint8_t *)"XX", 2, MFS_DATA_FORK, 1).block == 0x123);
     EXPECT(mfs_block(image, LARGE, (const uint8_t *)"YY", 2, MFS_DATA_FORK, 1).block == 0x187);
@@ -631,16 +717,12 @@ static void n17(void)
     EXPECT(mfs_write(image, HALL, RATES, MFS_RESOURCE_FORK, 0, bytes, 1024, 5) == MFS_SUCCESS);
 }
 
-/* The directory block has room for 400 bytes behind RATES: one entry of 306, and then none of 96. */
+/* Room for an entry of 72 bytes, and none of 74. */
 static void n18(void)
 {
-    static uint8_t name[255];
-
-    memset(name, 'n', sizeof name);
-    EXPECT(mfs_create(image, HALL, name, 255, finder, 1, 2) == MFS_SUCCESS);
-    keep(HALL);
-    refuses_create(HALL, name, 44, MFS_DIRECTORY_FULL);
-    EXPECT(mfs_create(image, HALL, name, 43, finder, 1, 2) == MFS_SUCCESS);
+    fill_directory();
+    refuses_create(HALL, letters, 22, MFS_DIRECTORY_FULL);
+    EXPECT(mfs_create(image, HALL, letters, 21, finder, 1, 2) == MFS_SUCCESS);
 }
 
 static void n19(void)
@@ -648,6 +730,32 @@ static void n19(void)
     put32(image + 1054, 4294967295u);
     keep(HALL);
     refuses_create(HALL, THIRD, MFS_NO_FILE_NUMBER);
+    refuses_create(HALL, letters, 31, MFS_NO_FILE_NUMBER);
+}
+
+/* A new name of 32 to 255 bytes: behind 11 and 12, before 14, 19 and 18. That 1 to 10 come before it is in all_refuse. */
+static void n21(void)
+{
+    size_t size;
+
+    refuses_create(HALL, letters, 32, MFS_NAME_TOO_LONG);
+    refuses_create(HALL, letters, 255, MFS_NAME_TOO_LONG);
+    refuses_create(HALL, letters, 256, MFS_BAD_NAME);
+    image[1035] = 0x80;
+    keep(HALL);
+    refuses_create(HALL, letters, 32, MFS_VOLUME_LOCKED);
+    for (size = 31; size <= 32; size++) {
+        old_file(size);
+        keep(LARGE);
+        refuses_create(LARGE, letters, size, size == 31 ? MFS_NAME_EXISTS : MFS_NAME_TOO_LONG);
+    }
+    start();
+    put32(image + 1054, 4294967295u);
+    keep(HALL);
+    refuses_create(HALL, letters, 32, MFS_NAME_TOO_LONG);
+    start();
+    fill_directory();
+    refuses_create(HALL, letters, 32, MFS_NAME_TOO_LONG);
 }
 
 static const struct {
@@ -661,6 +769,7 @@ static const struct {
     {"block: the blocks of HALL's files", blocks},
     {"read: bytes, count and the buffer's rest", reads},
     {"create: every byte of the image", creates},
+    {"old names above 31: every call but create", old_names},
     {"write, block, read, cut: the fork's number", fork_numbers},
     {"P1", p1},
     {"P2", p2},
@@ -694,6 +803,7 @@ static const struct {
     {"refused by 17", n17},
     {"refused by 18", n18},
     {"refused by 19", n19},
+    {"refused by 21", n21},
 };
 
 int main(int argc, char **argv)
@@ -707,6 +817,7 @@ int main(int argc, char **argv)
         return 2;
     }
     fclose(file);
+    memset(letters, 'n', sizeof letters);
     for (i = 0; i < sizeof tests / sizeof tests[0]; i++) {
         start();
         good = 1;

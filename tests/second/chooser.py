@@ -133,16 +133,21 @@ def read_call(rng, state):
     return 'R', name, fork, offset, min(length, 65535)
 
 
+def creating(rng, name):
+    return ('N', name, maker.some_bytes(rng, 16), rng.getrandbits(32),
+            rng.getrandbits(32))
+
+
 def create_call(rng, state):
     r = rng.random()
-    if r < 0.75:
-        name = maker.new_name(rng, maker.name_length(rng), state.names) or b'!'
-    elif r < 0.9 and state.names:
+    if r < 0.77:
+        length = maker.new_length if r < 0.7 else maker.long_length
+        name = maker.new_name(rng, length(rng), state.names) or b'!'
+    elif r < 0.92 and state.names:
         name = maker.other_case(rng, good_name(rng, state))
     else:
         name = bad_name(rng, state)
-    return ('N', name, maker.some_bytes(rng, 16), rng.getrandbits(32),
-            rng.getrandbits(32))
+    return creating(rng, name)
 
 
 def write_call(rng, state, most_data=2500):

@@ -4,13 +4,15 @@
     generate.py --bad DIR
 
 The same bytes come out each time.  With --check nothing is written: each file
-that differs gives a line, and the exit code is then 1.  With --counts a table
-shows how often each call gives each number.  With --bad only the bad inputs
-for the programs are written, NAME.in and NAME.out side by side: list-... for
-the listing, replay-... and changes-... for replay.
+that differs gives a line, and the exit code is then 1.  With --counts tables
+show how often each call gives each number, how often it succeeds on names of
+each length, and what else the list must contain.  With --bad only the bad
+inputs for the programs are written, NAME.in and NAME.out side by side:
+list-... for the listing, replay-... and changes-... for replay.
 """
 
 import argparse
+from collections import Counter
 import os
 import random
 import sys
@@ -37,24 +39,112 @@ FEWEST_EACH = 10
 # the numbers that each call can give
 CAN_GIVE = {tag: list(range(11)) + more for tag, more in {
     'C': [], 'E': [13], 'F': [12, 13], 'B': [12, 13, 16], 'R': [12, 13, 16],
-    'N': [11, 12, 14, 18, 19], 'W': [11, 12, 13, 15, 16, 17],
+    'N': [11, 12, 21, 14, 19, 18], 'W': [11, 12, 13, 15, 16, 17],
     'U': [11, 12, 13, 15, 16], 'D': [11, 12, 13, 15]}.items()}
+NUMBERS = sorted(set().union(*CAN_GIVE.values()))
+
+# the lengths of names that must come up, the longest new one first
+LENGTHS = {'31': (31,), '32': (32,), '33 to 253': range(33, 254),
+           '254': (254,), '255': (255,)}
+LONG = list(LENGTHS)[1:]
+
+# what create must meet, beside each number that it can give
+CREATES = ['0, fills its block', '0, passes a block with room for less',
+           '1 to 10, long name', '11, long name', '14, name of 31',
+           '18, two bytes short', '21, next number the last', '21, no room',
+           '21, old name', '21, old name in other case']
+CREATES += ['21, %s name of %s' % (text, kind)
+            for text in ('new', 'old') for kind in LONG]
+
+
+def length_kind(name):
+    for kind, lengths in LENGTHS.items():
+        if len(name) in lengths:
+            return kind
+    return None
+
+
+def rooms(v):
+    """The bytes behind the last entry of each directory block."""
+    return [v.dir_block_end(d) - at for d, at in enumerate(v.ends)]
+
+
+def create_met(v, name, number):
+    """What a create met, as texts of CREATES; v is the volume after it."""
+    kind = length_kind(name)
+    size = volume.even(volume.ENTRY_HEAD + len(name))
+    most = max(rooms(v))
+    place = v.places.get(volume.fold(name))
+    if number == 0:
+        d = v.entries[place].dir_block
+        if rooms(v)[d] == 0:
+            yield '0, fills its block'
+        if any(room > volume.ENTRY_HEAD for room in rooms(v)[:d]):
+            yield '0, passes a block with room for less'
+    elif number == 11 and kind in LONG:
+        yield '11, long name'
+    elif number == 14 and kind == '31':
+        yield '14, name of 31'
+    elif number == 18 and most == size - 2:
+        yield '18, two bytes short'
+    elif number == 21:
+        if v.facts.next_number == volume.LAST_NUMBER:
+            yield '21, next number the last'
+        if most < size:
+            yield '21, no room'
+        if place is None:
+            yield '21, new name of ' + kind
+        else:
+            yield '21, old name of ' + kind
+            same = v.entries[place].entry.name == name
+            yield '21, old name' + ('' if same else ' in other case')
 
 
 class Tape:
-    """A list of records with the lines expected for them."""
+    """A list of records with the lines expected for them.  by_length counts,
+    for each kind of length, the successes of each call on such a name and,
+    under I, the accepted volumes that hold one; creates counts what create
+    met."""
 
     def __init__(self):
         self.records = []
         self.machine = replay.Machine()
+        self.by_length = Counter()
+        self.creates = Counter()
 
     def add(self, *call):
         record = replay.record(call)
         self.records.append(record)
         self.machine.run(record)
+        if call[0] == 'I':
+            self.note_volume()
+        elif call[0] != 'C':
+            self.note_call(call, self.machine.lines[-1].split())
+
+    def note_volume(self):
+        try:
+            names = self.state().names
+        except volume.Refused:
+            return
+        self.by_length.update({('I', length_kind(name)) for name in names})
+
+    def note_call(self, call, words):
+        tag, number = call[0], int(words[1])
+        # a read or a write of no bytes shows little
+        idle = tag == 'R' and words[2] == '0' or tag == 'W' and not call[4]
+        if number == 0 and not idle:
+            name = bytes.fromhex(words[-2]) if tag == 'E' else call[1]
+            self.by_length[tag, length_kind(name)] += 1
+        if tag == 'N' and 1 <= number <= 10:
+            self.creates['1 to 10, long name'] += length_kind(call[1]) in LONG
+        elif tag == 'N':
+            self.creates.update(create_met(self.volume(), call[1], number))
+
+    def volume(self):
+        return volume.Volume(self.machine.image)
 
     def state(self):
-        return chooser.state_of_volume(volume.Volume(self.machine.image))
+        return chooser.state_of_volume(self.volume())
 
     def some(self, rng, kinds, state=None):
         """A call of each kind in this order; the arguments fit the state of
@@ -156,6 +246,23 @@ def folding(tape):
         tape.add('F', name)
 
 
+def long_names_reading(tape, count):
+    rng = random.Random(14)
+    for _ in range(count):
+        m = maker.long_names(rng)
+        state = chooser.state_of_made(m)
+        tape.add('I', m.image())
+        tape.add('C')
+        for place, own in enumerate(state.names):
+            tape.add('E', place)
+            name = maker.other_case(rng, own)
+            for near in (name, own[:-1], name + b'A'):
+                tape.add('F', near)
+            for fork, (logical, blocks) in enumerate(state.forks[own]):
+                tape.add('B', name, fork, rng.randrange(blocks))
+                tape.add('R', own, fork, rng.randrange(logical), 600)
+
+
 # Damage
 
 def damage(tape, tags, rounds):
@@ -217,7 +324,11 @@ def hall_changes(tape):
              ('R', b'WEEK1', 0, 0, 2000)],
             [('N', name, new[:16], date, 2) for name in (
                 b'A', b'a', b'B' * 31, b'b' * 32, b'C' * 255, b'', b'D' * 256,
-                b'E' * 1024, b'B' * 30, b'F' * 31)]):
+                b'E' * 1024, b'B' * 30, b'F' * 31, b'G' * 31, b'H', b'H' * 32,
+                b'b' * 31)],
+            [('N', name, new[:16], date, 2) for name in (
+                b'A' * 31, b'B' * 31, b'C' * 31, b'D' * 31, b'E' * 22,
+                b'E' * 21, b'F', b'F' * 32, b'G' * 255)]):
         tape.add('I', hall.hall())
         for call in calls:
             tape.add(*call)
@@ -236,6 +347,21 @@ def random_runs(tape, count, calls):
         tape.add('C')
 
 
+def create_new(tape, rng, length):
+    name = maker.new_name(rng, length, tape.state().names)
+    if name is not None:
+        tape.add(*chooser.creating(rng, name))
+
+
+def fill_last_block(tape, rng):
+    """Where no block has room for more than one new entry: a name that needs
+    two bytes too many, then one that needs all of them."""
+    room = max(rooms(tape.volume()))
+    if 52 <= room <= 82:
+        create_new(tape, rng, maker.length_for(rng, room + 2))
+        create_new(tape, rng, maker.length_for(rng, room))
+
+
 def full_directories(tape, count):
     """Creates until nothing fits, deletes, creates again."""
     rng = random.Random(7)
@@ -245,18 +371,17 @@ def full_directories(tape, count):
                        styles=('empty', 'some', 'full', 'nearly'))
         tape.add('I', m.image())
         for turn in range(3):
-            lengths = [255, 32, 31, 1, 40, 20, 1, 2, 100, 61, 12, 1, 1]
-            rng.shuffle(lengths)
+            lengths = [31, 31, 31, 1, 30, 20, 1, 2, 27, 24, 12, 1, 1]
+            lengths = rng.sample(lengths, 8 if turn else 13)
             if turn == 0 and i % 2:
                 lengths.sort(reverse=True)
             for length in lengths:
-                name = maker.new_name(rng, length, tape.state().names)
-                if name is not None:
-                    tape.add('N', name, maker.some_bytes(rng, 16),
-                             rng.getrandbits(32), rng.getrandbits(32))
+                create_new(tape, rng, length)
+                fill_last_block(tape, rng)
+            create_new(tape, rng, maker.long_length(rng))
             tape.some(rng, 'EEFC')
             for name in rng.sample(tape.state().names,
-                                   min(2, len(tape.state().names))):
+                                   min(3, len(tape.state().names))):
                 tape.add('D', maker.other_case(rng, name))
             tape.some(rng, 'EF')
 
@@ -322,9 +447,10 @@ def last_numbers(tape, count):
                        next_kind=('near', 'end')[i % 2],
                        styles=('empty', 'some', 'full')[i % 3:][:1])
         tape.add('I', m.image())
-        for turn in range(8):
+        for turn in range((8, 4)[i % 2]):
             name = maker.new_name(rng, rng.randint(1, 9), tape.state().names)
             tape.add('N', name, bytes(16), turn, turn)
+        create_new(tape, rng, maker.long_length(rng))
         tape.some(rng, 'NNDNENC')
 
 
@@ -336,7 +462,35 @@ def locks(tape, count):
                        next_kind=('end', 'small')[i // 2 % 2],
                        styles=('some', 'short', 'full'))
         tape.add('I', m.image())
+        create_new(tape, rng, maker.long_length(rng))
         tape.some(rng, 'NWUDWUDNWUDWUDWUDC')
+
+
+def long_names_changes(tape, count):
+    """Files with old names are written, cut and deleted; a long name is not
+    made again, its first 31 bytes are."""
+    rng = random.Random(15)
+    for _ in range(count):
+        m = maker.long_names(rng, locked=False, file_locks=0)
+        tape.add('I', m.image())
+        names = [file.name for file in m.files()]
+        rng.shuffle(names)
+        for own in names:
+            name = maker.other_case(rng, own)
+            for there in (own, name):
+                tape.add(*chooser.creating(rng, there))
+            for fork in (0, 1):
+                logical = tape.state().forks[own][fork][0]
+                tape.add('W', name, fork, rng.randint(0, logical),
+                         maker.some_bytes(rng, rng.randint(1, 500)), 1)
+                logical, blocks = tape.state().forks[own][fork]
+                tape.add('B', own, fork, blocks - 1)
+                tape.add('R', own, fork, max(0, logical - 300), 400)
+                tape.add('U', name, fork, rng.randint(0, logical), 2)
+            tape.add('D', name)
+            for again in (own, own[:31]):
+                tape.add(*chooser.creating(rng, again))
+        tape.some(rng, 'CEF')
 
 
 def large_changes(tape):
@@ -372,7 +526,8 @@ def reading_list():
     before_the_first_image(tape, READING)
     hall_reading(tape)
     folding(tape)
-    volumes_reading(tape, 100)
+    volumes_reading(tape, 90)
+    long_names_reading(tape, 6)
     large_reading(tape, (maker.disk_400k_of_640, maker.longest_directory,
                          maker.largest_blocks, middle_volume, middle_volume))
     damage(tape, READING, 2)
@@ -386,7 +541,8 @@ def all_list():
     hall_reading(tape)
     hall_changes(tape)
     folding(tape)
-    volumes_reading(tape, 110)
+    volumes_reading(tape, 100)
+    long_names_reading(tape, 6)
     large_reading(tape, (maker.disk_400k_of_640, maker.longest_directory,
                          maker.largest_blocks) + (middle_volume,) * 4)
     damage(tape, ALL, 2)
@@ -397,8 +553,14 @@ def all_list():
     grow_and_shrink(tape, 14)
     last_numbers(tape, 12)
     locks(tape, 20)
+    long_names_changes(tape, 10)
     large_changes(tape)
     return tape
+
+
+def hold(text, count):
+    if count < FEWEST_EACH:
+        raise SystemExit('%s only %d times' % (text, count))
 
 
 def make_list(calls):
@@ -408,11 +570,17 @@ def make_list(calls):
     tags = READING if calls == 'reading' else ALL
     for tag in tags:
         for number in CAN_GIVE[tag]:
-            if counts[tag, number] < FEWEST_EACH:
-                raise SystemExit('%s gives %d only %d times' % (
-                    tag, number, counts[tag, number]))
+            hold('%s gives %d' % (tag, number), counts[tag, number])
     if set(counts) - {(t, n) for t in tags for n in CAN_GIVE[t]}:
         raise SystemExit('a call gives a number that it never may')
+    for tag in 'I' + tags[1:]:
+        for kind in LENGTHS if tag != 'N' else ('31',):
+            hold('%s on a name of %s' % (tag, kind),
+                 tape.by_length[tag, kind])
+    if any(tape.by_length['N', kind] for kind in LONG):
+        raise SystemExit('create makes a long name')
+    for text in CREATES if 'N' in tags else ():
+        hold('create: ' + text, tape.creates[text])
     if sum(counts.values()) < FEWEST_CALLS[calls]:
         raise SystemExit('too few calls')
     if len(tape.input()) + len(tape.output()) > LARGEST[calls]:
@@ -421,22 +589,30 @@ def make_list(calls):
     return tape
 
 
-def show_counts(counts, sizes):
+def show_table(title, tags, rows, counts):
+    print('%-10s' % title + ''.join('%6s' % tag for tag in tags))
+    for row in rows:
+        print('%-10s' % row + ''.join(
+            '%6s' % (counts[tag, row] or '.') for tag in tags))
+
+
+def show_counts(tape, sizes):
+    counts = tape.machine.counts
     tags = [tag for tag in ALL if any(t == tag for t, _ in counts)]
-    print('number ' + ''.join('%6s' % tag for tag in tags))
-    for number in range(20):
-        print('%6d ' % number + ''.join(
-            '%6s' % (counts[tag, number] or '.') for tag in tags))
-    print('   all ' + ''.join(
-        '%6d' % sum(counts[tag, number] for number in range(20))
+    show_table('number', tags, NUMBERS, counts)
+    print('%-10s' % 'all' + ''.join(
+        '%6d' % sum(counts[tag, number] for number in NUMBERS)
         for tag in tags))
     print('%d calls' % sum(counts.values()))
+    show_table('length', 'I' + ALL[1:], LENGTHS, tape.by_length)
+    for text in CREATES if 'N' in tags else ():
+        print('%6d create: %s' % (tape.creates[text], text))
     for path, data in sizes.items():
         print('%9d %s' % (len(data), path))
 
 
 def all_files(calls):
-    """Each file's path below the root and its bytes, and the counts."""
+    """Each file's path below the root and its bytes, and the list."""
     disk = bytes(hall.hall())
     tape = make_list(calls)
     return {
@@ -446,7 +622,7 @@ def all_files(calls):
         'crates/list/stdout': listing.listing(disk),
         'crates/replay/stdin': tape.input(),
         'crates/replay/stdout': tape.output(),
-    }, tape.machine.counts
+    }, tape
 
 
 # Bad inputs
@@ -579,9 +755,9 @@ def main():
     if options.bad:
         write_bad_inputs(options.bad)
         return 0
-    files, counts = all_files(options.calls)
+    files, tape = all_files(options.calls)
     if options.counts:
-        show_counts(counts, files)
+        show_counts(tape, files)
     if options.check:
         lines = list(differing(options.root, files))
         for line in lines:

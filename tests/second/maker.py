@@ -4,7 +4,8 @@ The bytes come from a writer of its own; none of the nine calls is used.  All
 that document 01 leaves free is filled with garbage: the dead half-byte, bytes
 behind the map, behind a directory block's reading, pad bytes, boot and backup
 blocks, gaps, free blocks, bytes behind logical ends and behind the volume
-name, and the bits of flags and attributes that have no meaning here.
+name, and the bits of flags and attributes that have no meaning here.  Names
+have up to 255 bytes, as on old volumes, though create takes no more than 31.
 """
 
 import copy
@@ -190,8 +191,24 @@ def other_case(rng, name):
 
 
 def name_length(rng):
-    return rng.choice((1, 2, 5, 8, 12, 20, 31, 32, 255,
+    return rng.choice((1, 2, 5, 8, 12, 20, 31, 32, 254, 255,
                        rng.randint(1, 60), rng.randint(1, 255)))
+
+
+def new_length(rng):
+    """The length of a name that create takes."""
+    return rng.choice((1, 2, 5, 8, 12, 20, 30, 31, 31,
+                       rng.randint(1, 31), rng.randint(1, 31)))
+
+
+def long_length(rng):
+    """The length of a name that only an old file has."""
+    return rng.choice((32, 32, 33, 253, 254, 255, rng.randint(32, 255)))
+
+
+def length_for(rng, size):
+    """The length of a name whose entry has this size."""
+    return rng.choice((size - 51, max(1, size - 52)))
 
 
 # Shapes
@@ -224,9 +241,9 @@ def lengths_in_block(rng, style):
     lengths = []
     while left > 306 or (left >= 104 and rng.random() < 0.6):
         size = min((name_length(rng) + 52) // 2 * 2, left - 52)
-        lengths.append(rng.choice((size - 51, max(1, size - 52))))
+        lengths.append(length_for(rng, size))
         left -= size
-    lengths.append(rng.choice((left - 51, max(1, left - 52))))
+    lengths.append(length_for(rng, left))
     return lengths
 
 
@@ -499,6 +516,25 @@ def every_byte(rng):
     rng.shuffle(names)
     return make(rng, limit=36, per=1, n=2, dir_length=27, locked=False,
                 next_kind='small', names=names)
+
+
+def with_names(rng, names, **want):
+    """Files with these names; each fork has blocks and bytes, and two or more
+    blocks are free."""
+    first = [rng.randint(1, 3) for _ in range(2 * len(names))]
+    want.setdefault('dir_length', len(names))
+    return make(rng, per=1, n=sum(first) + rng.randint(2, 6), surplus=0,
+                first=first, names=names, **want)
+
+
+def long_names(rng, **want):
+    """Old long names and one of 31 bytes, in any order."""
+    lengths = [31, 32, rng.randint(33, 253), 254, 255]
+    rng.shuffle(lengths)
+    names = []
+    for length in lengths:
+        names.append(new_name(rng, length, names))
+    return with_names(rng, names, **want)
 
 
 def little(rng):

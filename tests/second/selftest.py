@@ -3,7 +3,8 @@
 Random runs of all nine calls start from made volumes.  After every call the
 image must be accepted, must read as a plain history says, and must equal,
 byte for byte, what the maker's writer gives for the same change made in plain
-lists.  The cases P1 to P12 run too.
+lists.  Names at the edges of 12, 21 and 14 and old long names run so too, and
+the cases P1 to P12.
 """
 
 import random
@@ -37,7 +38,8 @@ class History:
     """The history of document 01: the facts, and for each file its number,
     name, flags, Finder bytes, dates, and each fork's bytes and count of
     blocks.  It knows no image, map or directory block; of each answer it is
-    told only whether it is 18."""
+    told only whether it is 18.  It decides 21 (T-01 in document 02) from the
+    arguments alone."""
 
     def __init__(self, m):
         self.locked = m.attributes & 0x8080 != 0
@@ -74,6 +76,8 @@ class History:
             return 11
         if not 1 <= len(name) <= 255:
             return 12
+        if tag == 'N' and len(name) > 31:
+            return 21
         file = self.files.get(key(name))
         if tag == 'N':
             if file is not None:
@@ -297,6 +301,9 @@ class Run:
             same(told(history.files[key(call[1])], entry), True, 'find')
         return 0
 
+    def create(self, name):
+        return self.call('N', name, b'Finder bytes: 16', 3, 4)
+
 
 def one_run(rng, m, calls, seen):
     run = Run(m)
@@ -318,13 +325,15 @@ class Runs(unittest.TestCase):
                                {'next_kind': 'near'}, {'file_locks': 0.6}))
             limit = rng.choice((8, 9, 12, 16, 16, 24, 24, 40))
             one_run(rng, maker.make(rng, limit=limit, **want), CALLS, seen)
+        for _ in range(10):
+            one_run(rng, maker.long_names(rng), CALLS, seen)
         one_run(rng, maker.disk_400k(rng), 20, seen)
         one_run(rng, maker.most_blocks(rng), 40, seen)
         one_run(rng, maker.largest_blocks(rng), 40, seen)
         one_run(rng, maker.longest_directory(rng), 10, seen)
         wanted = {'C': [0], 'E': [0, 13], 'F': [0, 12, 13],
                   'B': [0, 12, 13, 16], 'R': [0, 12, 13, 16],
-                  'N': [0, 11, 12, 14, 18, 19],
+                  'N': [0, 11, 12, 21, 14, 19, 18],
                   'W': [0, 11, 12, 13, 15, 16, 17],
                   'U': [0, 11, 12, 13, 15, 16], 'D': [0, 11, 12, 13, 15]}
         for tag, numbers in wanted.items():
@@ -400,6 +409,139 @@ class Runs(unittest.TestCase):
         for size in (0, 1, 511, 512, 513, 5000):
             data = maker.some_bytes(rng, size)
             self.assertEqual(replay.total(data), replay.piece_sum(data))
+
+
+OLD = [letter * length for letter, length in (
+    (b'd', 31), (b'e', 32), (b'F', 33), (b'g', 100), (b'H', 254), (b'i', 255))]
+TOO_LONG = (32, 33, 100, 254, 255)
+
+
+def old_volume(names=OLD, next_kind='small', **want):
+    return maker.with_names(random.Random(SEED + 6), names, locked=False,
+                            file_locks=0, next_kind=next_kind, **want)
+
+
+class Names(unittest.TestCase):
+    """Create gives 21 for a name of 32 to 255 bytes, after 11 and 12 and
+    before 14, 19 and 18; files that have such names are served as before."""
+
+    def creates(self, run, letter, numbers):
+        """By length, what names of this letter give, in both cases."""
+        for length, number in numbers.items():
+            for name in (letter * length, letter.swapcase() * length):
+                self.assertEqual(run.create(name), number, length)
+
+    def test_new(self):
+        for length in (1, 30, 31):
+            self.assertEqual(Run(old_volume()).create(b'N' * length), 0)
+        self.creates(Run(old_volume()), b'N', dict.fromkeys(TOO_LONG, 21))
+        self.creates(Run(old_volume()), b'N', {0: 12, 256: 12, 1024: 12})
+
+    def test_any_bytes(self):
+        """The length counts, not the bytes."""
+        rng = random.Random(SEED + 7)
+        run = Run(old_volume())
+        for _ in range(20):
+            for length, number in ((31, 0), (32, 21), (255, 21), (256, 12)):
+                name = maker.any_name(rng, length)
+                self.assertEqual(run.create(name), number)
+                if number == 0:
+                    self.assertEqual(run.call('D', name), 0)
+
+    def test_locked(self):
+        for bits in (0x80, 0x8000):
+            m = old_volume()
+            m.attributes |= bits
+            lengths = (0, 1, 31) + TOO_LONG + (256,)
+            for letter in (b'N', b'e', b'i'):
+                self.creates(Run(m), letter, dict.fromkeys(lengths, 11))
+
+    def test_refused_volume(self):
+        image = hall.hall()
+        image[1024 + 35] = 3
+        for length in (31,) + TOO_LONG:
+            self.assertEqual(
+                volume.create(image, b'N' * length, bytes(16), 3, 4), 10)
+
+    def test_exists(self):
+        run = Run(old_volume())
+        for name in OLD:
+            number = 14 if len(name) == 31 else 21
+            for spelling in (name, name.swapcase()):
+                self.assertEqual(run.create(spelling), number)
+
+    def test_last_number(self):
+        run = Run(old_volume(next_kind='end'))
+        self.creates(run, b'N', {1: 19, 31: 19})
+        self.creates(run, b'N', dict.fromkeys(TOO_LONG, 21))
+        self.creates(run, b'd', {31: 14})
+        self.creates(run, b'i', {255: 21, 256: 12})
+
+    def test_room(self):
+        """Names of 31 where the only directory block has this much left;
+        longer ones give 21 with room and without."""
+        for left, number in ((0, 18), (52, 18), (80, 18), (82, 0), (84, 0)):
+            names = [b'L' * 255, b'M' * (154 - left)]
+            m = old_volume(names, dir_length=1)
+            at, end = m.tail_at(0)
+            self.assertEqual(end - at, left)
+            run = Run(m)
+            self.creates(run, b'N', dict.fromkeys(TOO_LONG, 21))
+            self.creates(run, b'L', {255: 21, 256: 12})
+            self.assertEqual(run.create(b'N' * 31), number)
+        run = Run(old_volume([b'L' * 255], dir_length=1))
+        self.creates(run, b'N', {32: 21, 254: 21})
+        self.assertEqual(run.call('D', b'l' * 255), 0)
+        self.creates(run, b'N', {32: 21, 255: 21})
+
+    def test_old(self):
+        """Old names are told, found, read, written, cut and deleted."""
+        for name in OLD:
+            run = Run(old_volume())
+            place = [file.name for file in run.m.files()].index(name)
+            for spelling in (name, name.swapcase()):
+                self.old(run, spelling, place)
+            self.assertEqual(run.call('D', name.swapcase()), 0)
+            self.assertEqual(run.call('F', name), 13)
+            self.assertEqual(run.create(name), 0 if len(name) == 31 else 21)
+
+    def old(self, run, name, place):
+        self.assertEqual(run.call('C'), 0)
+        self.assertEqual(run.call('E', place), 0)
+        self.assertEqual(run.call('F', name), 0)
+        a = run.m.a
+        for fork in (0, 1):
+            length, blocks = run.history.state().forks[
+                run.m.files()[place].name][fork]
+            for at in range(blocks):
+                self.assertEqual(run.call('B', name, fork, at), 0)
+            self.assertEqual(run.call('B', name, fork, blocks), 16)
+            for offset in (0, 1, length // 2, length):
+                self.assertEqual(
+                    run.call('R', name, fork, offset, length), 0)
+            self.assertEqual(run.call('R', name, fork, length + 1, 1), 16)
+            for offset, data in ((0, b'first'), (length, b'last' * 200),
+                                 (length // 2, b''), (1, bytes(2 * a))):
+                self.assertEqual(run.call('W', name, fork, offset, data, 7), 0)
+            self.assertEqual(
+                run.call('W', name, fork, 0, bytes(60 * a), 8), 17)
+            for length in (2 * a, a + 1, a, 1, 0):
+                self.assertEqual(run.call('U', name, fork, length, 9), 0)
+            self.assertEqual(run.call('U', name, fork, 1, 9), 16)
+            self.assertEqual(run.call('W', name, fork, 0, b'again', 10), 0)
+
+    def test_old_locked(self):
+        m = old_volume()
+        for file in m.files():
+            file.flags |= 1
+        run = Run(m)
+        for name in OLD:
+            self.assertEqual(run.call('F', name), 0)
+            self.assertEqual(run.call('R', name, 1, 0, 9), 0)
+            self.assertEqual(run.call('W', name, 0, 0, b'', 7), 15)
+            self.assertEqual(run.call('U', name, 1, 0, 7), 15)
+            self.assertEqual(run.call('D', name), 15)
+            self.assertEqual(run.create(name), 14 if len(name) == 31 else 21)
 
 
 def load_tests(loader, tests, pattern):

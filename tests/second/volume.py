@@ -1,4 +1,5 @@
-"""The nine calls on a volume image, straight from the rules of document 01.
+"""The nine calls on a volume image, straight from the rules of document 01
+and, for number 21, of T-01 in document 02.
 
 The image is a bytearray.  Each call gives the number first: 0, or the number
 of the refusal.  A refusal changes no byte and its other results are zero.
@@ -24,6 +25,7 @@ INFO_AT = 1024
 MAP_AT = 1088
 ENTRY_HEAD = 51             # bytes of an entry before the name's first byte
 LAST_NUMBER = 4294967295
+LONGEST_NEW = 31            # bytes of a name that create takes
 
 Facts = namedtuple('Facts', (
     'created', 'backup', 'attributes', 'files', 'dir_start', 'dir_length',
@@ -368,6 +370,8 @@ def create(image, name, finder, created, changed):
         v = Volume(image)
         v.refuse_locked()
         v.refuse_name(name)
+        if len(name) > LONGEST_NEW:
+            raise Refused(21)
         if fold(name) in v.places:
             raise Refused(14)
         if v.facts.next_number == LAST_NUMBER:

@@ -66,6 +66,12 @@ def shapes():
         yield shape.__name__, shape(rng).image()
 
 
+def with_names(*names):
+    """An accepted volume with files of these names, of any length."""
+    return maker.with_names(random.Random(38), names, locked=False,
+                            file_locks=0, next_kind='small').image()
+
+
 def as_text(name):
     """A name as the tool shows it."""
     return ''.join(

@@ -2,10 +2,11 @@
 after each command, and the number of each refusal."""
 
 import collections
+import os
 import random
 
 from support import (Case, DATE, as_text, generate, hall, maker, volume,
-                     water)
+                     water, with_names)
 
 FINDER = b'????????' + bytes(8)
 
@@ -102,7 +103,7 @@ class Changing(Case):
             self.write(image)
             for _ in range(12):
                 image = self.some_command(rng, image)
-        for verb, numbers in (('put', (0, 11, 12, 15, 17, 18, 19)),
+        for verb, numbers in (('put', (0, 11, 12, 15, 17, 18, 19, 21)),
                               ('append', (0, 11, 12, 13, 15, 17)),
                               ('cut', (0, 11, 12, 13, 15, 16)),
                               ('delete', (0, 11, 12, 13, 15))):
@@ -144,7 +145,7 @@ class Changing(Case):
         image = hall.hall()
         image[1034] = 0x80
         self.write(image)
-        for name in ('WEEK1', 'none', '', 'x' * 256):
+        for name in ('WEEK1', 'none', '', 'x' * 32, 'x' * 256):
             self.compare((11, image), 'append', '--date=@1', self.image, name,
                          '-')
             self.compare((11, image), 'put', '--date=@1', '--as', name,
@@ -152,6 +153,62 @@ class Changing(Case):
             self.compare((11, image), 'cut', '--date=@1', self.image, name,
                          '9999')
             self.compare((11, image), 'delete', self.image, name)
+
+    def test_new_names(self):
+        """A new name has at most 31 characters."""
+        image = hall.hall()
+        for length, number in ((31, 0), (32, 21), (255, 21), (256, 12)):
+            self.write(image)
+            wanted = put(image, b'n' * length, 0, b'new', 1)
+            self.assertEqual(wanted[0], number)
+            self.compare(wanted, 'put', '--date=@1', '--as', 'n' * length,
+                         self.image, '-', stdin=b'new')
+        # also where the name is that of the file on this machine
+        for name, number in (('\u00e9' * 31, 0), ('n' * 32, 21),
+                             ('n' * 255, 21)):
+            self.write(image)
+            source = self.write(b'new', name)
+            line = 'put', '--date=@1', self.image, source
+            if number:
+                ran = self.refused(number, *line)
+                self.assertIn('longer than 31', ran.err)
+                self.assertEqual(self.read(), image)
+            else:
+                self.done(*line)
+                self.assertEqual(self.read(), put(
+                    image, name.encode('mac_roman'), 0, b'new', 1)[1])
+            self.only('disk.img', name)
+            os.remove(source)
+
+    def test_old_names(self):
+        """A file keeps its longer name: shown, read, put, appended to, cut
+        and deleted."""
+        names = [b'n' * length for length in (32, 254, 255)]
+        image = with_names(*names)
+        self.write(image)
+        listed = self.done('list', self.image)
+        for name in names:
+            self.assertIn(b' %s\n' % name, listed)
+        for name in names:
+            text = name.decode().upper()
+            wanted = put(image, name, 0, b'new' * 200, 1)
+            self.assertEqual(wanted[0], 0)
+            image = self.compare(wanted, 'put', '--date=@1', '--as', text,
+                                 self.image, '-', stdin=b'new' * 200)
+            image = self.compare(append(image, name, 0, b'more', 2), 'append',
+                                 '--date=@2', self.image, text, '-',
+                                 stdin=b'more')
+            self.assertEqual(self.done('get', self.image, text),
+                             b'new' * 200 + b'more')
+            image = self.compare(cut(image, name, 0, 3, 3), 'cut',
+                                 '--date=@3', self.image, text, '3')
+        # gone, it can't come back
+        for name in names:
+            text = name.decode()
+            image = self.compare(delete(image, [name]), 'delete', self.image,
+                                 text)
+            self.compare((21, image), 'put', '--date=@1', '--as', text,
+                         self.image, '-')
 
     def test_full_disks(self):
         """17 and 18, the edge of each, and nothing saved."""

@@ -4,7 +4,7 @@ import datetime
 import random
 import time
 
-from support import Case, as_text, hall, maker, volume, water
+from support import Case, as_text, hall, maker, volume, water, with_names
 
 EPOCH = datetime.datetime(1904, 1, 1)
 LAST = 4294967295
@@ -74,6 +74,15 @@ class Names(Case):
             self.refused(number, 'get', self.image, 'x' * length)
             self.refused(number, 'get', self.image, '\\x41' * length)
             self.refused(number, 'delete', self.image, '\u00e9' * length)
+        for length, number in ((0, 12), (32, 21), (255, 21), (256, 12)):
+            for text in ('\u00e9', '\\x8E'):
+                self.refused(number, 'put', '--date=@1', '--as', text * length,
+                             self.image, '-')
+        self.assertEqual(self.read(), image)
+        self.done('put', '--date=@1', '--as', '\u00e9' * 31, self.image, '-')
+        self.done('get', self.image, '\\x8E' * 31)
+        # an old name
+        self.write(with_names(b'\x8e' * 255))
         self.done('put', '--date=@1', '--as', '\u00e9' * 255, self.image, '-')
         self.done('get', self.image, '\\x8E' * 255)
 

@@ -11,7 +11,7 @@ use Rattle.model.specs.Bytes.{Bytes}
 use Rattle.model.specs.Facts.{factsOf, dirStart, dirLength, nextNumber, isLocked}
 use Rattle.model.specs.Directory.{padded, cutBlocks, directoryBlocks, directory, named}
 use Rattle.model.specs.Check.{orElse}
-use Rattle.model.specs.Calls.{Does, Fits, nameOf, forkGiven, badName, refuses, knownIn, hasRoom, change, lent, reply}
+use Rattle.model.specs.Calls.{Does, Fits, nameOf, forkGiven, badName, tooLong, refuses, knownIn, hasRoom, change, lent, reply}
 use Rattle.model.specs.Calls.Call.{create}
 use Rattle.laws.proofs.Refusals.{GoodName, good-name}
 use Rattle.directory.specs.Cursor.{Begins}
@@ -61,30 +61,29 @@ module _ (f : VolumeFacts) (image : List ℕ) (c : Cursor) (b : Begins (dirStart
 
 -- ---- the returns
 
--- 12 is told of a bad name alone
-missed-bad : (t u : Bool) (n : ℕ) → n ≡ orElse t 12 (orElse (not u) 13 0) → n ≡ 12 → t ≡ true
-missed-bad true u n h e = refl
-missed-bad false true n h e = absurd (omega arith)
-missed-bad false false n h e = absurd (omega arith)
+-- a good name that names nothing: no file has it
+missed-none : (u : Bool) (n : ℕ) → n ≡ orElse (not u) 13 0 → (n ≡ 0 → ⊥) → u ≡ false
+missed-none true n h z = absurd (z h)
+missed-none false n h z = refl
 
--- another number: the name is good and no file has it
-missed-fresh : (t u : Bool) (n : ℕ) → n ≡ orElse t 12 (orElse (not u) 13 0) → (n ≡ 0 → ⊥) → (n ≡ 12 → ⊥) → (t ≡ false) × (u ≡ false)
-missed-fresh true u n h z w = absurd (w h)
-missed-fresh false true n h z w = absurd (z h)
-missed-fresh false false n h z w = (refl, refl)
-
--- a name that is good and no file has
-pub record Fresh (image name : List ℕ) : Type 0 where
+-- a name that a new file may have
+pub record Short (name : List ℕ) : Type 0 where
   pub good : badName name ≡ false
+  pub short : tooLong name ≡ false
+
+-- and that no file has
+pub record Fresh (image name : List ℕ) : Type 0 where
+  pub title : Short name
   pub none : any (named name) (directory image) ≡ false
 
-pub fresh : {image name : List ℕ} {number : ℕ} → Missed image name number → (number ≡ 12 → ⊥) → Fresh image name
-fresh {image} {name} {number} m w =
-    let both = missed-fresh (badName name) (any (named name) (directory image)) number (m .fires) (m .some) w in
-    record { good = both .0; none = both .1 }
+pub fresh : {image name : List ℕ} {number : ℕ} → Short name → Missed image name number → Fresh image name
+fresh {image} {name} {number} s m = record {
+  title = s;
+  none = missed-none (any (named name) (directory image)) number (rw (s .good) at (m .fires)) (m .some);
+}
 
 pub fresh-title : {image name : List ℕ} → Fresh image name → GoodName name
-fresh-title {name = name} h = good-name name (h .good)
+fresh-title {name = name} h = good-name name (h .title .good)
 
 module _ {f : VolumeFacts} {image : List ℕ} (r : Readable f image) (octets : Bytes image)
     {name finder : List ℕ} {made changed : ℕ} (fits : Fits (create name finder made changed)) where
@@ -93,18 +92,20 @@ module _ {f : VolumeFacts} {image : List ℕ} (r : Readable f image) (octets : B
   create-locked h = let h′ = rw (r .facts) at h in refuse r octets (create name finder made changed) 11 fits (rw h′) (λ z. omega arith)
 
   module _ (l : isLocked f ≡ false) where
-    pub create-untitled : {number : ℕ} → Missed image name number → number ≡ 12 → Does (create name finder made changed) image (toldNumber 12) image
+    pub create-untitled : badName name ≡ true → Does (create name finder made changed) image (toldNumber 12) image
     unfolding refuses knownIn nameOf forkGiven lent
-    create-untitled {number} m e =
-        let l′ = rw (r .facts) at l in
-        let t : badName name ≡ true = missed-bad (badName name) (any (named name) (directory image)) number (m .fires) e in
-        refuse r octets (create name finder made changed) 12 fits (rw (l′, t)) (λ z. omega arith)
+    create-untitled t = let l′ = rw (r .facts) at l in refuse r octets (create name finder made changed) 12 fits (rw (l′, t)) (λ z. omega arith)
 
-    pub create-exists : {place : ℕ} {e : EntryAt} → NamedEntry image name place e → Does (create name finder made changed) image (toldNumber 14) image
+    pub create-long : badName name ≡ false → tooLong name ≡ true → Does (create name finder made changed) image (toldNumber 21) image
     unfolding refuses knownIn nameOf forkGiven lent
-    create-exists h =
+    create-long g t = let l′ = rw (r .facts) at l in refuse r octets (create name finder made changed) 21 fits (rw (l′, g, t)) (λ z. omega arith)
+
+    pub create-exists : Short name → {place : ℕ} {e : EntryAt} → NamedEntry image name place e
+        → Does (create name finder made changed) image (toldNumber 14) image
+    unfolding refuses knownIn nameOf forkGiven lent
+    create-exists s h =
         let l′ = rw (r .facts) at l in
-        refuse r octets (create name finder made changed) 14 fits (rw (l′, h .title, h .there .exists)) (λ z. omega arith)
+        refuse r octets (create name finder made changed) 14 fits (rw (l′, s .good, s .short, h .there .exists)) (λ z. omega arith)
 
     module _ (new : Fresh image name) where
       pub create-last : nextNumber f ≡ 4294967295 → Does (create name finder made changed) image (toldNumber 19) image
@@ -112,8 +113,8 @@ module _ {f : VolumeFacts} {image : List ℕ} (r : Readable f image) (octets : B
       create-last n =
           let l′ = rw (r .facts) at l in
           let n′ = rw (r .facts) at n in
-          refuse r octets (create name finder made changed) 19 fits (rw (l′, new .good, new .none, eq-eqb (nextNumber (factsOf image)) 4294967295 n′))
-          (λ z. omega arith)
+          refuse r octets (create name finder made changed) 19 fits
+          (rw (l′, new .title .good, new .title .short, new .none, eq-eqb (nextNumber (factsOf image)) 4294967295 n′)) (λ z. omega arith)
 
       module _ (n : nextNumber f ≡ 4294967295 → ⊥) where
         pub create-full : {c : Cursor} → Begins (dirStart f) (dirLength f) c → {size : ℕ} → size ≡ padded (51 + length name)
@@ -124,7 +125,7 @@ module _ {f : VolumeFacts} {image : List ℕ} (r : Readable f image) (octets : B
             let n′ = rw (r .facts) at n in
             let h′ = rw (r .facts) at (no-room f image c b (length name) size q h) in
             refuse r octets (create name finder made changed) 18 fits
-            (rw (l′, new .good, new .none, ne-eqb (nextNumber (factsOf image)) 4294967295 n′, h′)) (λ z. omega arith)
+            (rw (l′, new .title .good, new .title .short, new .none, ne-eqb (nextNumber (factsOf image)) 4294967295 n′, h′)) (λ z. omega arith)
 
         pub create-served : {base end : ℕ} → Adds f image (length name) base end → {after : List ℕ} → after ≡ withFile f image name finder made changed
             → Does (create name finder made changed) image (toldNumber 0) after
@@ -135,4 +136,4 @@ module _ {f : VolumeFacts} {image : List ℕ} (r : Readable f image) (octets : B
             let h′ = rw (r .facts) at (adds-some r (length name) base end a) in
             let p′ = rw (r .facts) at p in
             rw p′ (serve r octets (create name finder made changed) fits
-            (rw (l′, new .good, new .none, ne-eqb (nextNumber (factsOf image)) 4294967295 n′, h′)))
+            (rw (l′, new .title .good, new .title .short, new .none, ne-eqb (nextNumber (factsOf image)) 4294967295 n′, h′)))

@@ -5,9 +5,11 @@ ghost use Rattle.files.specs.Told.{toldNumber};
 use directory::entry_size;
 use entries::Space;
 use files::Named;
+use files::bad_name;
 use files::first_entry;
 use files::is_locked;
 use files::lookup;
+use files::too_long;
 use model::VolumeFacts;
 
 // On an accepted image, whose facts are f.
@@ -26,12 +28,15 @@ pub fn serve_create(
     if is_locked(f) {
         return 11;
     }
+    if bad_name(name) {
+        return 12;
+    }
+    if too_long(name) {
+        return 21;
+    }
     match lookup(image, f, name) {
         Named::At(_, _) => 14,
-        Named::Refused(number) => {
-            if number == 12 {
-                return 12;
-            }
+        Named::Refused(_) => {
             if f.next_number == VolumeFacts::LAST_NUMBER {
                 return 19;
             }

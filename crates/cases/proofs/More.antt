@@ -3,6 +3,7 @@ use mathlib.Core.Path.{refl}
 use Rattle.model.specs.Cases.{AllRight, end, _&_}
 use Rattle.model.proofs.Cases.{everything, row}
 use Rattle.cases.specs.More.{badVolumes, readings, creations, changings, orders, borderDisk, foldings, sampled, contents, wideDisk, wideGrown, wideForks}
+use Rattle.cases.specs.More.{oldDisk, oldFacts, oldNames}
 use Rattle.cases.specs.More.{limited, Limits, MoreCases}
 
 bad-volumes : AllRight badVolumes
@@ -16,7 +17,7 @@ all-readings = row & row & row & row & row & row & row & row & row & row & row &
 
 all-creations : AllRight creations
 unfolding everything creations
-all-creations = row & row & row & row & row & row & row & end
+all-creations = row & row & row & row & row & row & end
 
 all-changings : AllRight changings
 unfolding everything changings
@@ -38,10 +39,14 @@ all-wide-forks : AllRight wideForks
 unfolding everything sampled wideDisk wideGrown wideForks
 all-wide-forks = row & row & row & row & end
 
+all-old-names : AllRight oldNames
+unfolding everything oldDisk oldFacts oldNames
+all-old-names = row & row & row & row & row & row & row & row & row & row & row & row & row & row & row & end
+
 limits : Limits
 unfolding everything limited Limits
 limits = (refl, refl, refl, refl, refl, refl, refl, refl)
 
 pub more : MoreCases
 unfolding MoreCases
-more = (bad-volumes, all-readings, all-creations, all-changings, all-orders, all-foldings, all-contents, all-wide-forks, limits)
+more = (bad-volumes, all-readings, all-creations, all-changings, all-orders, all-foldings, all-contents, all-wide-forks, all-old-names, limits)

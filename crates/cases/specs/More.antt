@@ -11,8 +11,9 @@ use Rattle.model.specs.Calls.{only, tellsFacts, tellsEntry, tellsBlock}
 use Rattle.model.specs.Calls.Call.{check, entry, find, block, read, create, write, cut, delete}
 use Rattle.model.specs.Cases.{Row, AllRight, bad, refused, info, disk, forkBytesOf, entryBytes, WEEK1, week1, RATES, NEWS, ratesEntry, hall, withBytes}
 use Rattle.model.specs.Cases.{withWeek1, sample, weekFacts, hallFacts, ratesFacts, newsEntry, staleDisk, deadDisk, fullWeek, resourceDisk, roomyDisk, longName}
-use Rattle.model.specs.Cases.{longDisk, twoBlocks, tellsRead, longFacts}
+use Rattle.model.specs.Cases.{hallMap, longDisk, twoBlocks, tellsRead}
 use Rattle.model.specs.Cases.Row.{does}
+use Rattle.model.specs.declared.DirectoryEntry.{DirectoryEntry}
 use Rattle.model.specs.declared.Fork.the-variants.{Data, Resource}
 
 -- checks 1 to 8
@@ -88,15 +89,14 @@ creations =
     (withBytes 1036 (bytes16 3) (withBytes 1054 (bytes32 4) (withBytes 2162 (sample 0 16)
     (withBytes 2160 (newsEntry 3 0) hall))))
     ∷ does twoBlocks (create NEWS (zeros 16) 7 8) (only 0 [])
-    (withBytes 1036 (bytes16 3) (withBytes 1054 (bytes32 4) (withBytes 2354 (newsEntry 3 0) twoBlocks)))
-    ∷ does twoBlocks (create (longName 67 155) (zeros 16) 7 8) (only 0 [])
-    (withBytes 1036 (bytes16 3) (withBytes 1054 (bytes32 4)
-    (withBytes 2354 (entryBytes 0x80 3 (zeros 10) (zeros 10) 7 8 (longName 67 155) []) twoBlocks)))
-    ∷ does twoBlocks (create (longName 67 157) (zeros 16) 7 8) (only 0 [])
-    (withBytes 1036 (bytes16 3) (withBytes 1054 (bytes32 4)
-    (withBytes 2616 (entryBytes 0x80 3 (zeros 10) (zeros 10) 7 8 (longName 67 157) []) twoBlocks)))
+    (withBytes 1036 (bytes16 4) (withBytes 1054 (bytes32 5) (withBytes 2480 (newsEntry 4 0) twoBlocks)))
+    ∷ does twoBlocks (create (longName 67 29) (zeros 16) 7 8) (only 0 [])
+    (withBytes 1036 (bytes16 4) (withBytes 1054 (bytes32 5)
+    (withBytes 2480 (entryBytes 0x80 4 (zeros 10) (zeros 10) 7 8 (longName 67 29) []) twoBlocks)))
+    ∷ does twoBlocks (create (longName 67 31) (zeros 16) 7 8) (only 0 [])
+    (withBytes 1036 (bytes16 4) (withBytes 1054 (bytes32 5)
+    (withBytes 2616 (entryBytes 0x80 4 (zeros 10) (zeros 10) 7 8 (longName 67 31) []) twoBlocks)))
     -- a directory block that is full
-    ∷ does (longDisk 155) (find (longName 97 255)) (tellsEntry 0 (longFacts 255)) (longDisk 155)
     ∷ refused 18 (create NEWS (zeros 16) 7 8) (longDisk 155)
     ∷ refused 19 (create NEWS (zeros 16) 7 8) (withBytes 1054 (bytes32 4294967295) (longDisk 155))
     ∷ []
@@ -218,6 +218,63 @@ wideForks =
     (withBytes 1058 (bytes16 1) (withBytes 1088 (0x00 ∷ 0x00 ∷ 0x01 ∷ []) (withWeek1 3 1024 1024 9 wideGrown)))
     ∷ []
 
+-- WEEK1 and RATES of HALL under names of 32 and 255 bytes, both dates 7 and 8, with bytes behind the directory
+unfoldable pub oldDisk : List ℕ
+oldDisk =
+    withBytes 2560 (sample 0 3584)
+    (disk
+    (record {
+      attributes = 0;
+      files = 2;
+      dirLength = 1;
+      next = 3;
+      free = 2;
+      map = hallMap;
+      directory = entryBytes 0x80 1 (forkBytesOf 2 700 1024) (zeros 10) 7 8 (longName 65 32) (0 ∷ [])
+          ++ entryBytes 0x80 2 (forkBytesOf 3 512 512) (zeros 10) 7 8 (longName 66 255) [];
+    }))
+
+-- what entry and find tell of the first file
+unfoldable pub oldFacts : DirectoryEntry
+oldFacts = record {
+  flags = 0x80;
+  version = 0;
+  finder = zeros 16;
+  number = 1;
+  «data» = record { start = record { 0 = 2 }; logical = 700; physical = 1024 };
+  resource = record { start = record { 0 = 0 }; logical = 0; physical = 0 };
+  created = 7;
+  changed = 8;
+  «name_length» = 32;
+  name = longName 65 32 ++ zeros 223;
+}
+
+-- T-01: old long names are still checked, told, found, read, written, cut and deleted
+unfoldable pub oldNames : List Row
+oldNames =
+    does oldDisk check (tellsFacts hallFacts) oldDisk
+    ∷ does oldDisk (entry 0) (tellsEntry 0 oldFacts) oldDisk
+    ∷ does oldDisk (find (longName 97 32)) (tellsEntry 0 oldFacts) oldDisk
+    ∷ does oldDisk (block (longName 65 32) Data 1) (tellsBlock 4) oldDisk
+    ∷ does oldDisk (block (longName 98 255) Data 0) (tellsBlock 3) oldDisk
+    ∷ does oldDisk (read (longName 65 32) Data 690 (replicate 20 0xee)) (tellsRead 10 (sample 1202 10 ++ replicate 10 0xee)) oldDisk
+    ∷ does oldDisk (write (longName 65 32) Data 700 (zeros 400) 9) (only 0 [])
+    (withBytes 1058 (bytes16 1) (withBytes 1088 (0x00 ∷ 0x40 ∷ 0x01 ∷ 0x00 ∷ 0x50 ∷ 0x01 ∷ [])
+    (withWeek1 2 1100 1536 9 (withBytes 3772 (zeros 324) (withBytes 4096 (zeros 76) oldDisk)))))
+    ∷ does oldDisk (cut (longName 65 32) Data 512 9) (only 0 [])
+    (withBytes 1058 (bytes16 3) (withBytes 1088 (0x00 ∷ 0x10 ∷ 0x01 ∷ 0x00 ∷ 0x00 ∷ 0x00 ∷ []) (withWeek1 2 512 512 9 oldDisk)))
+    ∷ does oldDisk (delete (longName 66 255)) (only 0 [])
+    (withBytes 1036 (bytes16 1) (withBytes 1058 (bytes16 3) (withBytes 1088 (0x00 ∷ 0x40 ∷ 0x00 ∷ 0x00 ∷ 0x10 ∷ 0x00 ∷ [])
+    (withBytes 2132 (zeros 428) oldDisk))))
+    -- long names that no file has
+    ∷ refused 13 (block (longName 67 32) Data 0) oldDisk
+    ∷ does oldDisk (read (longName 67 255) Data 0 (replicate 3 0xee)) (only 13 (replicate 3 0xee)) oldDisk
+    ∷ refused 13 (write (longName 65 33) Data 0 [] 9) oldDisk
+    ∷ refused 13 (cut (longName 66 254) Data 0 9) oldDisk
+    ∷ refused 13 (delete (longName 65 31)) oldDisk
+    ∷ refused 13 (delete (longName 67 32)) oldDisk
+    ∷ []
+
 -- check 3 on an image of 65,535 blocks with these N, A and directory length
 unfoldable pub limited : ℕ → ℕ → ℕ → Bool
 limited n a dirLength =
@@ -249,4 +306,5 @@ MoreCases =
     × AllRight foldings
     × AllRight contents
     × AllRight wideForks
+    × AllRight oldNames
     × Limits

@@ -6,7 +6,6 @@ use mathlib.Core.Bool.{true, false}
 use mathlib.Core.List.{List}
 use native.Mathlib.Omega.{arith}
 use lib.ListN.{length}
-use borrow.Author.Tests.{eq-eqb, ne-eqb, lt-ltb, le-ltb}
 use Rattle.model.specs.Facts.{factsOf, dirStart, dirLength}
 use Rattle.model.specs.Lists.{any}
 use Rattle.model.specs.Directory.{directory, named}
@@ -26,19 +25,6 @@ use Rattle.files.specs.declared.Named.the-variants.{At, Refused}
 use Rattle.files.specs.Lookup.{Readable, NamedEntry, Missed, Names}
 
 -- ---- names
-
-module _ (name : List ℕ) where
-  pub empty-bad : length name ≡ 0 → badName name ≡ true
-  unfolding badName
-  empty-bad h = rw (eq-eqb (length name) 0 h)
-
-  pub long-bad : 255 < length name → badName name ≡ true
-  unfolding badName
-  long-bad h = rw (ne-eqb (length name) 0 (λ z. omega arith), lt-ltb 255 (length name) h)
-
-  pub title-good : (length name ≡ 0 → ⊥) → length name ≤ 255 → badName name ≡ false
-  unfolding badName
-  title-good z h = rw (ne-eqb (length name) 0 z, le-ltb 255 (length name) h)
 
 -- a bad name
 pub missed-title : (image name : List ℕ) → badName name ≡ true → Missed image name 12

@@ -1,7 +1,8 @@
-// A named file of an accepted volume: found, its locks, and whether it or a fork of it may be changed. The answers of the calls,
-// and the zeros that a refusal gives.
+// Names given to a call. A named file of an accepted volume: found, its locks, and whether it or a fork of it may be changed. The
+// answers of the calls, and the zeros that a refusal gives.
 mod answers;
 mod locks;
+mod names;
 mod searching;
 
 pub use answers::no_entry;
@@ -12,6 +13,8 @@ use model::AllocationBlock;
 use model::DirectoryEntry;
 use model::ForkFacts;
 use model::VolumeFacts;
+pub use names::bad_name;
+pub use names::too_long;
 pub use searching::changeable;
 pub use searching::changeable_fork;
 pub use searching::first_entry;

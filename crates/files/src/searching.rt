@@ -7,6 +7,7 @@ use crate::Named;
 use crate::NamedFork;
 use crate::locks::file_locked;
 use crate::locks::is_locked;
+use crate::names::bad_name;
 use directory::Cursor;
 use directory::Found;
 use model::Fork;
@@ -26,10 +27,7 @@ pub fn lookup(image: &[u8], f: VolumeFacts, name: &[u8]) -> Named
     requires { ⌜ Readable f (now image) ⌝ }
     ensures { λ r. ⌜ Names (now (image .entry)) (now (name .entry)) r ⌝ }
 {
-    if name.len() == 0 {
-        return Named::Refused(12);
-    }
-    if 255 < name.len() {
+    if bad_name(name) {
         return Named::Refused(12);
     }
     match directory::locate(image, first_entry(f), name) {

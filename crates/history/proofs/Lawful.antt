@@ -10,7 +10,7 @@ use lib.Dec.{eqb, leb, ltb}
 use borrow.Author.Tests.{not-true, not-false, ltb-true, ltb-false, lt-ltb, le-ltb}
 use Rattle.model.specs.Bytes.{Bytes}
 use Rattle.model.specs.Check.{Accepted}
-use Rattle.model.specs.Calls.{Call, nameOf, forkGiven, Known, grown, needed, badName, refuses, refusal, change, only, reply, after, Fits}
+use Rattle.model.specs.Calls.{Call, nameOf, forkGiven, Known, grown, needed, badName, tooLong, refuses, refusal, change, only, reply, after, Fits}
 use Rattle.model.specs.Calls.{Answer, tellsFacts, tellsEntry, tellsBlock, tellsBytes}
 use Rattle.model.specs.Calls.Call.{check, entry, find, block, read, create, write, cut, delete}
 use Rattle.history.specs.History.{File, History, noFile, heldOf, called, fileCalled, knownTo, declines, onCalled, Told, toldBy, toldOnly}
@@ -185,7 +185,7 @@ module _ (name finder : List ℕ) (made changed : ℕ) (h : History) (x : File) 
   unfolding declines refuses knownTo nameOf forkGiven
   fresh full z =
       let k = knownTo h full name Data in
-      else-zero (k .exists) 13 _ (else-zero (badName name) 11 _ (else-zero (k .locked) 10 _ z .1) .1) .0
+      else-zero (k .exists) 13 _ (else-zero (tooLong name) 20 _ (else-zero (badName name) 11 _ (else-zero (k .locked) 10 _ z .1) .1) .1) .0
 
   added-dates : added ≡ x → Dated (create name finder made changed) h x (called name x)
   unfolding datesGiven called newFile

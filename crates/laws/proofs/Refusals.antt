@@ -13,7 +13,8 @@ use Rattle.model.specs.Bytes.{byte}
 use Rattle.model.specs.Facts.{factsOf, A, nextNumber, freeCount, isLocked}
 use Rattle.model.specs.Directory.{padded, directoryBlocks, directory, forkOf, flagsLock, blockCount, named}
 use Rattle.model.specs.Check.{orElse, firstOf, verdict, Accepted}
-use Rattle.model.specs.Calls.{Call, Known, nameOf, forkGiven, grown, needed, badName, refuses, entryNamed, hasRoom, knownIn, refusal, change, after}
+use Rattle.model.specs.Calls.{Call, Known, nameOf, forkGiven, grown, needed, badName, tooLong, refuses, entryNamed, hasRoom, knownIn, refusal, change}
+use Rattle.model.specs.Calls.{after}
 use Rattle.model.specs.Calls.Call.{create, write, cut, delete}
 use Rattle.model.specs.declared.Fork.{Fork}
 use Rattle.model.proofs.Lists.{or-false}
@@ -82,24 +83,25 @@ pub create-fed : (name finder : List ℕ) (made changed : ℕ) (k : Known)
     → refuses (create name finder made changed) k
     ≡ refuses (create name finder made changed) (withFull k (eqb (refuses (create name finder made changed) k) 18))
 unfolding refuses withFull
-create-fed name finder made changed k = go (k .locked) (badName name) (k .exists) (eqb (k .next) 4294967295) (k .full)
+create-fed name finder made changed k = go (k .locked) (badName name) (tooLong name) (k .exists) (eqb (k .next) 4294967295) (k .full)
   where
-    number : (l b e n f : Bool) → ℕ
-    number l b e n f = orElse l 11 (orElse b 12 (orElse e 14 (orElse n 19 (orElse f 18 0))))
+    number : (l b t e n f : Bool) → ℕ
+    number l b t e n f = orElse l 11 (orElse b 12 (orElse t 21 (orElse e 14 (orElse n 19 (orElse f 18 0)))))
 
-    go : (l b e n f : Bool) → number l b e n f ≡ number l b e n (eqb (number l b e n f) 18)
-    go true b e n f = refl
-    go false true e n f = refl
-    go false false true n f = refl
-    go false false false true f = refl
-    go false false false false true = refl
-    go false false false false false = refl
+    go : (l b t e n f : Bool) → number l b t e n f ≡ number l b t e n (eqb (number l b t e n f) 18)
+    go true b t e n f = refl
+    go false true t e n f = refl
+    go false false true e n f = refl
+    go false false false true n f = refl
+    go false false false false true f = refl
+    go false false false false false true = refl
+    go false false false false false false = refl
 
 pub create-never : (name finder : List ℕ) (made changed : ℕ) (k : Known) → refuses (create name finder made changed) k ≡ 17 → ⊥
 unfolding refuses
 create-never name finder made changed k =
-    other (k .locked) 11 refl (other (badName name) 12 refl (other (k .exists) 14 refl
-    (other (eqb (k .next) 4294967295) 19 refl (other (k .full) 18 refl no-check))))
+    other (k .locked) 11 refl (other (badName name) 12 refl (other (tooLong name) 21 refl (other (k .exists) 14 refl
+    (other (eqb (k .next) 4294967295) 19 refl (other (k .full) 18 refl no-check)))))
 
 -- ---- what a call that is not refused has shown
 
@@ -164,15 +166,16 @@ module _ (image : List ℕ) where
       let f = factsOf image in
       let p₁ = else-zero (isLocked f) 10 _ (own-zero (create name finder created changed) z) in
       let p₂ = else-zero (badName name) 11 _ (p₁ .1) in
-      let p₃ = else-zero (any (named name) (directory image)) 13 _ (p₂ .1) in
-      let p₄ = else-zero (eqb (nextNumber f) 4294967295) 18 _ (p₃ .1) in
-      let p₅ = else-zero (not (any (hasRoom (padded (51 + length name))) (directoryBlocks f image))) 17 0 (p₄ .1) in
+      let p₃ = else-zero (tooLong name) 20 _ (p₂ .1) in
+      let p₄ = else-zero (any (named name) (directory image)) 13 _ (p₃ .1) in
+      let p₅ = else-zero (eqb (nextNumber f) 4294967295) 18 _ (p₄ .1) in
+      let p₆ = else-zero (not (any (hasRoom (padded (51 + length name))) (directoryBlocks f image))) 17 0 (p₅ .1) in
       record {
         unlocked = p₁ .0;
         title = good-name name (p₂ .0);
-        fresh = p₃ .0;
-        number = eqb-false (nextNumber f) 4294967295 (p₄ .0);
-        room = not-false _ (p₅ .0);
+        fresh = p₄ .0;
+        number = eqb-false (nextNumber f) 4294967295 (p₅ .0);
+        room = not-false _ (p₆ .0);
       }
 
   -- the tests that write, cut and delete share, and what stands behind them

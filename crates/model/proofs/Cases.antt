@@ -14,14 +14,14 @@ use Rattle.model.specs.Directory.{numberIn, nameIn, finderIn, forkIn, fo
 use Rattle.model.specs.Directory.{ownedBlocks, fold, folded, sameName, named}
 use Rattle.model.specs.Check.{fires1, fires2, fires3, fires4, fires5, goodEntry, fires6, goodNumber, fires7, emptyFork, fullFork, goodFork, sharesNone}
 use Rattle.model.specs.Check.{firstOf, fires8, fires9, fires10, from9, from8, from7, from6, from5, from4, from3, from2, verdict}
-use Rattle.model.specs.Calls.{nameOf, forkGiven, fewest, grown, needed, badName, refuses, entryNamed, hasRoom, knownIn, refusal, bytesOf, forkBytes}
-use Rattle.model.specs.Calls.{putBlocks, putContent, readCount, copied, filled, newEntry, placed, removedIn, removed, onNamed, rewrittenIn, rewritten}
-use Rattle.model.specs.Calls.{withFork, withDirectory, withFiles, withNext, withFree, created, written, shortened, deleted, change, only, tellsFacts}
-use Rattle.model.specs.Calls.{tellsEntry, tellsBlock, tellsBytes, reply, lent, answer, after}
+use Rattle.model.specs.Calls.{nameOf, forkGiven, fewest, grown, needed, badName, tooLong, refuses, entryNamed, hasRoom, knownIn, refusal, bytesOf}
+use Rattle.model.specs.Calls.{forkBytes, putBlocks, putContent, readCount, copied, filled, newEntry, placed, removedIn, removed, onNamed, rewrittenIn}
+use Rattle.model.specs.Calls.{rewritten, withFork, withDirectory, withFiles, withNext, withFree, created, written, shortened, deleted, change, only}
+use Rattle.model.specs.Calls.{tellsFacts, tellsEntry, tellsBlock, tellsBytes, reply, lent, answer, after}
 use Rattle.model.specs.Cases.{Plan, info, disk, entryBytes, weekEntry, ratesEntry, hallMap, hallPlan, hall, hallByRules, withBytes, sample, withWeek1}
 use Rattle.model.specs.Cases.{freeCount3, ring, info800, Row, Right, AllRight, end, _&_, weekFacts, pCases, PCases, hallFacts, ratesFacts, newsEntry}
 use Rattle.model.specs.Cases.{paddedDisk, staleDisk, deadDisk, fullWeek, resourceDisk, roomyDisk, longName, longDisk, twoBlocks, tellsRead, longFacts}
-use Rattle.model.specs.Cases.{telling, FurtherCases}
+use Rattle.model.specs.Cases.{telling, longNames, FurtherCases}
 use Rattle.model.specs.Cases.Row.{does, passes3, gives3}
 use Rattle.model.specs.Calls.Call.{check, entry, find, block, read, create, write, cut, delete}
 
@@ -35,9 +35,9 @@ unfolding every any distinct keep first placeOf flat from times firstOr0 same
     entryIn noEntry flagsLock forksIn blockCount forkBlocks ownedBlocks fold folded sameName named
     fires1 fires2 fires3 fires4 fires5 goodEntry fires6 goodNumber fires7 emptyFork fullFork goodFork sharesNone fires8 fires9 fires10 from9 from8 from7 from6
     from5 from4 from3 from2 verdict
-    nameOf forkGiven fewest grown needed badName refuses entryNamed hasRoom knownIn refusal bytesOf forkBytes putBlocks putContent readCount copied filled
-    newEntry placed removedIn removed onNamed rewrittenIn rewritten withFork withDirectory withFiles withNext withFree created written shortened deleted change
-    only tellsFacts tellsEntry tellsBlock tellsBytes reply lent answer after
+    nameOf forkGiven fewest grown needed badName tooLong refuses entryNamed hasRoom knownIn refusal bytesOf forkBytes putBlocks putContent readCount copied
+    filled newEntry placed removedIn removed onNamed rewrittenIn rewritten withFork withDirectory withFiles withNext withFree created written shortened deleted
+    change only tellsFacts tellsEntry tellsBlock tellsBytes reply lent answer after
     info disk entryBytes weekEntry ratesEntry hallMap hallPlan hall hallByRules withBytes sample withWeek1 freeCount3 ring info800 Right weekFacts hallFacts
     ratesFacts newsEntry paddedDisk staleDisk deadDisk fullWeek resourceDisk roomyDisk longName longDisk twoBlocks tellsRead longFacts
 everything = tt
@@ -64,5 +64,8 @@ unfolding everything pCases PCases
 cases = row & row & refl & row & row & row & row & row & row & row & row & row & row & row & row & passes-391 & gives-392 & end
 
 pub further : FurtherCases
-unfolding everything telling FurtherCases
-further = row & row & row & row & row & row & row & row & row & end
+unfolding everything telling longNames FurtherCases
+further = (
+  row & row & row & row & row & row & row & row & row & end,
+  row & row & row & row & row & row & row & row & row & row & row & end,
+)

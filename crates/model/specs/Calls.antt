@@ -75,6 +75,10 @@ newBlocks f g o n = needed (A f) (grown (g .logical) o n) (blockCount (A f) g)
 unfoldable pub badName : List ℕ → Bool
 badName name = eqb (length name) 0 || ltb 255 (length name)
 
+-- 21 (document 02, T-01): the name is longer than 31, and not above 255, since 12 is asked before
+unfoldable pub tooLong : List ℕ → Bool
+tooLong name = ltb 31 (length name)
+
 -- ---- What the image says
 
 -- the entry of that name; no bytes where there is none
@@ -284,7 +288,7 @@ pub record Meaning : Type 1 where
   pub lent : List ℕ
   -- The arguments fit their types; arguments of fixed size come whole.
   pub fits : Type 0
-  -- its numbers in document 01's order, 0 where none is given
+  -- its numbers in the papers' order, 0 where none is given
   pub refuses : Known → ℕ
   -- what it answers, and the image that it leaves
   pub reply : List ℕ → Answer
@@ -349,14 +353,14 @@ meaning (read name fork offset buffer) = record {
   reply = λ image. tellsBytes (forkBytes (S (factsOf image)) (A (factsOf image)) image (forkOf fork (entryNamed name image))) offset buffer;
   change = unchanged;
 }
--- Create an empty file: create 11, 12, 14, 19, 18.
+-- Create an empty file: create 11, 12, 14, 19, 18, and 21 straight after 12 and before 14 (document 02, T-01).
 meaning (create name finder made changed) = record {
   name = name;
   fork = Data;
   lent = [];
   fits = Bytes name × Bytes finder × (length finder ≡ 16) × (made < 2 ^ 32) × (changed < 2 ^ 32);
-  refuses = λ k. orElse (k .locked) 11 (orElse (badName name) 12 (orElse (k .exists) 14
-      (orElse (eqb (k .next) 4294967295) 19 (orElse (k .full) 18 0))));
+  refuses = λ k. orElse (k .locked) 11 (orElse (badName name) 12 (orElse (tooLong name) 21 (orElse (k .exists) 14
+      (orElse (eqb (k .next) 4294967295) 19 (orElse (k .full) 18 0)))));
   reply = numberAlone;
   change = λ image. created (factsOf image) image (newEntry (nextNumber (factsOf image)) name finder made changed);
 }

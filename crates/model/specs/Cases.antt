@@ -1,4 +1,4 @@
--- The disk HALL, the P cases as one table under one statement, and a second table of further cases.
+-- The disk HALL, the P cases as one table under one statement, and two tables of further cases, the second on long names.
 use Prim.Native.Nat.{ℕ, zero, suc, _+_, _-_, _*_, _/_, _%_}
 use mathlib.Core.Path.{_≡_}
 use mathlib.Core.Bool.{Bool, true, false}
@@ -277,10 +277,11 @@ resourceDisk = withBytes 1058 (bytes16 1) (withBytes 1093 (0x01 ∷ []) (withByt
 unfoldable pub roomyDisk : List ℕ
 roomyDisk = withBytes 2072 (bytes32 100) hall
 
--- a directory block that is full to its last byte: a name of 255 and one of 155
+-- a name of n bytes c
 unfoldable pub longName : ℕ → ℕ → List ℕ
 longName c n = replicate n c
 
+-- names of 255 and n bytes: with 155 the directory block is full to its last byte
 unfoldable pub longDisk : ℕ → List ℕ
 longDisk n =
     disk
@@ -295,18 +296,19 @@ longDisk n =
           ++ entryBytes 0xff 2 (zeros 10) (zeros 10) 7 8 (longName 66 n) [];
     })
 
--- two directory blocks: the first full but for 206 bytes, the second with RATES; S is 6
+-- two directory blocks: the first full but for 80 bytes, the second with RATES; S is 6
 unfoldable pub twoBlocks : List ℕ
 twoBlocks =
     disk
     (record {
       attributes = 0;
-      files = 2;
+      files = 3;
       dirLength = 2;
-      next = 3;
+      next = 4;
       free = 4;
       map = 0 ∷ 0 ∷ 1 ∷ [];
-      directory = upTo 512 (entryBytes 0x80 1 (zeros 10) (zeros 10) 7 8 (longName 65 255) []) ++ ratesEntry;
+      directory = upTo 512 (entryBytes 0x80 1 (zeros 10) (zeros 10) 7 8 (longName 65 255) []
+          ++ entryBytes 0x80 3 (zeros 10) (zeros 10) 7 8 (longName 66 75) []) ++ ratesEntry;
     })
 
 -- what read gives back, and what find tells of the first file of longDisk
@@ -352,5 +354,27 @@ telling =
     (withBytes 2104 (zeros 456) resourceDisk))))
     ∷ []
 
+-- 21, given by create when the name is longer than 31 and not above 255, straight after 12 and before 14
+unfoldable pub longNames : List Row
+longNames =
+    -- 31 succeeds, 32 and 255 give 21, 256 gives 12; every byte counts
+    does hall (create (longName 0x8e 31) (zeros 16) 7 8) (only 0 [])
+    (withBytes 1036 (bytes16 3) (withBytes 1054 (bytes32 4)
+    (withBytes 2160 (entryBytes 0x80 3 (zeros 10) (zeros 10) 7 8 (longName 0x8e 31) []) hall)))
+    ∷ refused 21 (create (longName 0x8e 32) (zeros 16) 7 8) hall
+    ∷ refused 21 (create (longName 65 255) (zeros 16) 7 8) hall
+    ∷ refused 12 (create (longName 65 256) (zeros 16) 7 8) hall
+    -- 32 on a locked volume, and 32 and 255 of names that exist, one in other case
+    ∷ refused 11 (create (longName 65 32) (zeros 16) 7 8) (withBytes 1034 (bytes16 0x0080) hall)
+    ∷ refused 21 (create (longName 66 32) (zeros 16) 7 8) (longDisk 32)
+    ∷ refused 21 (create (longName 97 255) (zeros 16) 7 8) (longDisk 32)
+    -- where the next number is the last and no block has room, and on a volume that is refused
+    ∷ refused 21 (create (longName 67 32) (zeros 16) 7 8) (withBytes 1054 (bytes32 4294967295) (longDisk 155))
+    ∷ refused 10 (create (longName 65 32) (zeros 16) 7 8) freeCount3
+    -- find: an old long name, in other case, and one that no file has
+    ∷ does (longDisk 155) (find (longName 97 255)) (tellsEntry 0 (longFacts 255)) (longDisk 155)
+    ∷ refused 13 (find (longName 67 32)) (longDisk 155)
+    ∷ []
+
 unfoldable pub FurtherCases : Type 0
-FurtherCases = AllRight telling
+FurtherCases = AllRight telling × AllRight longNames

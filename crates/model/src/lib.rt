@@ -1,4 +1,4 @@
-// What document 01 says: its definitions, in specs/, with the types that they share with the code; bytes copied, numbers and
+// What the papers say: the definitions, in specs/, with the types that they share with the code; bytes copied, numbers and
 // volume facts read from bytes, a fork's block count; and the statements that the definitions are held to.
 ghost use Rattle.model.specs.Cases.{FurtherCases, PCases};
 ghost use Rattle.model.specs.Check.{VerdictIsAccepted};

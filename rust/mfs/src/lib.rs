@@ -185,7 +185,7 @@ impl Volume {
         Ok(bytes)
     }
 
-    /// Makes an empty file.
+    /// Makes an empty file, whose name has at most 31 bytes: 21 refuses a longer one.
     pub fn create(image: &mut [u8], name: &[u8], finder: &[u8; 16], created: u32, changed: u32) -> Result<(), Refusal> {
         Refusal::of(ffi::create(image, name, finder, created, changed))
     }

@@ -9,30 +9,6 @@ pub struct Refusal {
     number: u8,
 }
 
-/// The words of refusal 1, of refusal 2, and so on, near document 01's own.
-const WORDS: [&str; 19] = [
-    "the length is not a multiple of 512, or it is fewer than 8 or more than 65,535 blocks",
-    "the signature differs",
-    "a size, a place or the next file number in the volume information is out of its bounds",
-    "the volume name is longer than 27",
-    "the map has a bad entry",
-    "a directory entry crosses its block, has name length 0 or a version other than 0",
-    "the entry count differs from the number of files, a file number is 0, repeated or not below the next one, or two \
-     names are equal",
-    "a fork's start, lengths and chain of blocks do not agree, or two forks share a block",
-    "a map entry above 0 belongs to no fork",
-    "the free count differs from the number of zero entries in the map",
-    "the volume is locked",
-    "the given name's length is 0 or above 255",
-    "no such file or place",
-    "the name exists",
-    "the file is locked",
-    "the offset or cut length is above the logical length, or the fork has no block at that place",
-    "the new blocks needed exceed those free",
-    "no directory block has room for the entry",
-    "the next file number is 4,294,967,295",
-];
-
 impl Refusal {
     /// The refusal that a call's number stands for; none for 0, success.
     pub(crate) fn of(number: u8) -> Result<(), Refusal> {
@@ -42,18 +18,39 @@ impl Refusal {
         }
     }
 
-    /// The number in document 01's table.
+    /// The number in document 01's table, or in document 02.
     pub fn number(self) -> u8 {
         self.number
     }
 
-    /// One sentence that says why.
+    /// One sentence that says why, near the documents' own.
     pub fn words(self) -> &'static str {
-        let place = usize::from(self.number).wrapping_sub(1);
-        WORDS
-            .get(place)
-            .copied()
-            .unwrap_or("a number that document 01 does not have")
+        match self.number {
+            1 => "the length is not a multiple of 512, or it is fewer than 8 or more than 65,535 blocks",
+            2 => "the signature differs",
+            3 => "a size, a place or the next file number in the volume information is out of its bounds",
+            4 => "the volume name is longer than 27",
+            5 => "the map has a bad entry",
+            6 => "a directory entry crosses its block, has name length 0 or a version other than 0",
+            7 => {
+                "the entry count differs from the number of files, a file number is 0, repeated or not below the next \
+                 one, or two names are equal"
+            }
+            8 => "a fork's start, lengths and chain of blocks do not agree, or two forks share a block",
+            9 => "a map entry above 0 belongs to no fork",
+            10 => "the free count differs from the number of zero entries in the map",
+            11 => "the volume is locked",
+            12 => "the given name's length is 0 or above 255",
+            13 => "no such file or place",
+            14 => "the name exists",
+            15 => "the file is locked",
+            16 => "the offset or cut length is above the logical length, or the fork has no block at that place",
+            17 => "the new blocks needed exceed those free",
+            18 => "no directory block has room for the entry",
+            19 => "the next file number is 4,294,967,295",
+            21 => "the given name is longer than 31, and no new file may have such a name",
+            _ => "a number that has no words here",
+        }
     }
 }
 
@@ -64,3 +61,19 @@ impl fmt::Display for Refusal {
 }
 
 impl Error for Refusal {}
+
+#[cfg(test)]
+mod tests {
+    use super::*;
+    use std::collections::HashSet;
+
+    #[test]
+    fn each_number_has_words_of_its_own() {
+        let words = |number| Refusal { number }.words();
+        let known: HashSet<_> = (1..=19).chain([21]).map(words).collect();
+        assert_eq!(known.len(), 20);
+        for number in [0, 20, 22, 255] {
+            assert!(!known.contains(words(number)), "{number}");
+        }
+    }
+}

@@ -1,4 +1,4 @@
-//! The library on the disk HALL: the worked cases of document 01, refusals, and lengths of the image.
+//! The library on the disk HALL: the worked cases of document 01, refusals, and lengths of names and of the image.
 
 #![allow(clippy::unwrap_used, clippy::expect_used, clippy::indexing_slicing)]
 
@@ -9,6 +9,19 @@ const DATE: u32 = 2_600_000_000;
 fn hall() -> Vec<u8> {
     let path = concat!(env!("CARGO_MANIFEST_DIR"), "/../../samples/hall.img");
     std::fs::read(path).expect("the disk HALL")
+}
+
+/// HALL with a third file, empty and of this name, which may be longer than a new one.
+fn hall_with(name: &[u8]) -> Vec<u8> {
+    let mut image = hall();
+    let entry = &mut image[2048 + 112..2560];
+    entry[0] = 0x80;
+    entry[21] = 3;
+    entry[50] = name.len() as u8;
+    entry[51..51 + name.len()].copy_from_slice(name);
+    image[1037] = 3;
+    image[1057] = 4;
+    image
 }
 
 fn blocks(image: &[u8], name: &[u8]) -> Vec<u16> {
@@ -133,10 +146,46 @@ fn creates() {
     let mut locked = hall();
     locked[1034] = 0x80;
     assert!(Volume::check(&locked).unwrap().is_locked());
-    assert_eq!(
-        Volume::create(&mut locked, b"", &[0; 16], 1, 2).map_err(Refusal::number),
-        Err(11)
-    );
+    for length in [0, 32, 256] {
+        assert_eq!(
+            Volume::create(&mut locked, &vec![b'n'; length], &[0; 16], 1, 2).map_err(Refusal::number),
+            Err(11)
+        );
+    }
+}
+
+#[test]
+fn new_names() {
+    let mut image = hall();
+    Volume::create(&mut image, &[b'n'; 31], &[0; 16], 0, 0).unwrap();
+    assert_eq!(image, hall_with(&[b'n'; 31]));
+    for (length, number) in [(0, 12), (32, 21), (33, 21), (254, 21), (255, 21), (256, 12)] {
+        let name = vec![b'n'; length];
+        assert_eq!(refused(|image| Volume::create(image, &name, &[0; 16], 1, 2)), number);
+    }
+}
+
+#[test]
+fn old_names() {
+    for length in [32, 254, 255] {
+        let name = vec![b'n'; length];
+        let mut image = hall_with(&name);
+        assert_eq!(
+            Volume::create(&mut image, &name, &[0; 16], 1, 2).map_err(Refusal::number),
+            Err(21)
+        );
+        assert_eq!(image, hall_with(&name));
+        assert_eq!(Volume::entry(&image, 2).unwrap().name, name);
+        assert_eq!(Volume::find(&image, &name.to_ascii_uppercase()).unwrap().0, 2);
+        Volume::write(&mut image, &name, Fork::Data, 0, &[7; 600], DATE).unwrap();
+        assert_eq!(Volume::read_all(&image, &name, Fork::Data).unwrap(), [7; 600]);
+        assert_eq!(blocks(&image, &name), [5, 6]);
+        Volume::cut(&mut image, &name, Fork::Data, 512, DATE).unwrap();
+        assert_eq!(blocks(&image, &name), [5]);
+        Volume::delete(&mut image, &name).unwrap();
+        assert_eq!(Volume::find(&image, &name).map_err(Refusal::number).err(), Some(13));
+        assert_eq!(Volume::entries(&image).unwrap().len(), 2);
+    }
 }
 
 #[test]

@@ -8,6 +8,7 @@ pub const MAP: usize = 1088;
 pub const MOST_BLOCKS: usize = 640;
 pub const LONGEST_VOLUME_NAME: usize = 27;
 pub const LONGEST_NAME: usize = 255;
+pub const LONGEST_NEW_NAME: usize = 31;
 
 /// The first allocation block.
 pub const FIRST_BLOCK: u16 = 2;

@@ -1,7 +1,7 @@
-//! Document 01's calls on an MFS volume, in safe Rust.
+//! Document 01's calls on an MFS volume, as document 02 changes them, in safe Rust.
 //!
 //! The image is one slice. Every call checks it whole (checks 1 to 10), then runs the checks of its own in the order
-//! of the table, and only then changes a byte.
+//! of the documents, and only then changes a byte.
 
 mod checks;
 mod directory;
@@ -73,6 +73,9 @@ pub fn read(image: &[u8], name: &[u8], fork: Fork, offset: u64, buffer: &mut [u8
 pub fn create(image: &mut [u8], name: &[u8], finder: &[u8; 16], created: u32, changed: u32) -> Result<(), Refusal> {
     let volume = Volume::open(image)?;
     volume.unlocked()?;
+    if (LONGEST_NEW_NAME + 1..=LONGEST_NAME).contains(&name.len()) {
+        return Err(Refusal::NameTooLong);
+    }
     match volume.place_of(image, name) {
         Ok(_) => return Err(Refusal::NameExists),
         Err(Refusal::NoSuchFile) => {}

@@ -1,4 +1,4 @@
-//! Document 01's worked disk and its cases P1 to P12, and what the cases leave out.
+//! Document 01's worked disk and its cases P1 to P12, what the cases leave out, and document 02's names.
 
 use super::map::decode_map;
 use super::*;
@@ -19,6 +19,19 @@ fn chain_of(image: &[u8], name: &[u8]) -> Vec<u16> {
     (0..)
         .map_while(|place| block(image, name, Fork::Data, place).ok())
         .collect()
+}
+
+/// HALL with a third file, which has no forks. Its name may be longer than a new one.
+fn hall_with(name: &[u8]) -> Vec<u8> {
+    let mut image = images::hall();
+    let entry = &mut image[DIRECTORY + 112..DIRECTORY + 512];
+    entry[entry_at::FLAGS] = IN_USE;
+    put_u32(entry, entry_at::NUMBER, 3);
+    entry[entry_at::NAME_LENGTH] = name.len() as u8;
+    entry[entry_at::NAME..][..name.len()].copy_from_slice(name);
+    put_u16(&mut image, volume_at::FILES, 3);
+    put_u32(&mut image, volume_at::NEXT_NUMBER, 4);
+    image
 }
 
 /// The change refused, with nothing changed.
@@ -182,11 +195,13 @@ fn create_stores_an_entry() {
     assert!(image[DIRECTORY + 112 + 57..DIRECTORY + 512].iter().all(|&b| b == 0));
     let facts = check(&image).unwrap();
     assert_eq!((facts.files, facts.next_number), (3, 4));
-    assert_eq!(
-        create(&mut image, &[b'n'; 255], &[0; 16], 1, 1),
-        Ok(()),
-        "342 bytes are left"
-    );
+    for letter in b'1'..=b'4' {
+        assert_eq!(
+            create(&mut image, &[letter; 31], &[0; 16], 1, 1),
+            Ok(()),
+            "342 bytes were left, and each takes 82"
+        );
+    }
     assert_eq!(create(&mut image, b"NO", &[0; 16], 1, 1), Err(Refusal::DirectoryFull));
 }
 
@@ -203,9 +218,61 @@ fn locks_and_used_up_numbers() {
     let mut image = images::hall();
     put_u32(&mut image, volume_at::NEXT_NUMBER, u32::MAX);
     assert_eq!(
-        create(&mut image, &[b'n'; 255], &[0; 16], 1, 1),
+        create(&mut image, &[b'n'; 31], &[0; 16], 1, 1),
         Err(Refusal::NumbersUsedUp)
     );
+}
+
+#[test]
+fn a_new_name_has_at_most_31_bytes() {
+    for (length, number) in [(0, 12), (32, 21), (254, 21), (255, 21), (256, 12)] {
+        let name = vec![b'n'; length];
+        assert_eq!(refused(|image| create(image, &name, &[0; 16], 1, 2)), number);
+    }
+    let mut image = images::hall();
+    assert_eq!(create(&mut image, &[b'n'; 31], &[0; 16], 1, 1), Ok(()));
+}
+
+#[test]
+fn long_new_names_are_refused_behind_11_and_before_14_19_and_18() {
+    let long = [b'n'; 32];
+    let mut locked = images::hall();
+    put_u16(&mut locked, volume_at::ATTRIBUTES, 0x8000);
+    let mut used_up = images::hall();
+    put_u32(&mut used_up, volume_at::NEXT_NUMBER, u32::MAX);
+    let mut full = hall_with(&[b'f'; 255]);
+    create(&mut full, &[b'g'; 31], &[0; 16], 1, 1).unwrap();
+    let rows = [
+        (locked, Refusal::VolumeLocked),
+        (hall_with(&long), Refusal::NameTooLong),
+        (used_up, Refusal::NameTooLong),
+        (full, Refusal::NameTooLong),
+    ];
+    for (mut image, refusal) in rows {
+        let before = image.clone();
+        assert_eq!(create(&mut image, &long, &[0; 16], 1, 1), Err(refusal));
+        assert_eq!(image, before);
+    }
+}
+
+#[test]
+fn an_old_name_may_be_longer() {
+    for length in [32, 254, 255] {
+        let name = vec![b'n'; length];
+        let mut image = hall_with(&name);
+        assert_eq!(entry(&image, 2).unwrap().name, name);
+        assert_eq!(find(&image, &name.to_ascii_uppercase()).unwrap().0, 2);
+        write(&mut image, &name, Fork::Data, 0, &[7; 600], DATE).unwrap();
+        assert_eq!(chain_of(&image, &name), [5, 6]);
+        let mut buffer = [0; 700];
+        assert_eq!(read(&image, &name, Fork::Data, 0, &mut buffer), Ok(600));
+        assert_eq!(buffer[..600], [7; 600]);
+        cut(&mut image, &name, Fork::Data, 512, DATE).unwrap();
+        assert_eq!(chain_of(&image, &name), [5]);
+        delete(&mut image, &name).unwrap();
+        assert_eq!(find(&image, &name), Err(Refusal::NoSuchFile));
+        assert_eq!(free(&image), 2);
+    }
 }
 
 #[test]

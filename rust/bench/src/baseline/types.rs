@@ -25,10 +25,11 @@ pub enum Refusal {
     VolumeFull = 17,
     DirectoryFull = 18,
     NumbersUsedUp = 19,
+    NameTooLong = 21,
 }
 
 impl Refusal {
-    /// The number in document 01's table.
+    /// The number in document 01's table, or in document 02.
     pub fn number(self) -> u8 {
         self as u8
     }

@@ -167,13 +167,22 @@ fn create(random: &mut Random, name: Bytes) -> Call {
     let name = if random.once_in(2) {
         name
     } else {
-        let longest = if random.once_in(4) { 255 } else { 12 };
-        let length = 1 + random.index(longest);
+        let length = new_length(random);
         Bytes(bytes(random, length))
     };
     let mut finder = [0; 16];
     random.fill(&mut finder);
     Call::Create(name, finder, random.next() as u32, random.next() as u32)
+}
+
+/// The length of a new name: mostly short, else about those that 21 and 12 refuse, or any, or near 31.
+fn new_length(random: &mut Random) -> usize {
+    match random.below(8) {
+        0 | 1 => [31, 32, 254, 255, 256][random.index(5)],
+        2 => 1 + random.index(255),
+        3 => 20 + random.index(12),
+        _ => 1 + random.index(12),
+    }
 }
 
 /// A write within the fork, to its end or a block's end, or about what fills the volume.

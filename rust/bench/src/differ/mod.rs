@@ -15,12 +15,15 @@ use std::fmt;
 
 const BUFFER_BYTE: u8 = 0x5A;
 
+/// The numbers that calls give, 0 to 21.
+const NUMBERS: usize = 22;
+
 /// What was run without a difference.
 pub struct Report {
     seed: u64,
     calls: u64,
     /// How often each call gave each number.
-    numbers: [[u64; 20]; 9],
+    numbers: [[u64; NUMBERS]; 9],
 }
 
 /// The first call that differed.
@@ -56,7 +59,7 @@ pub fn run(seed: u64, calls: u64) -> Result<Report, Box<Difference>> {
         report: Report {
             seed,
             calls: 0,
-            numbers: [[0; 20]; 9],
+            numbers: [[0; NUMBERS]; 9],
         },
     };
     let crowded = images::crowded();
@@ -201,6 +204,7 @@ mod tests {
         let report = run(1, 3_000).unwrap_or_else(|difference| panic!("{difference}"));
         assert!(report.calls >= 3_000);
         assert!(report.numbers.iter().all(|row| row[0] > 0), "each call succeeds");
+        assert!(report.numbers[5][21] > 0, "create refuses a long name");
     }
 
     #[test]

@@ -177,10 +177,10 @@ fn name(random: &mut Random, style: &Names, i: usize) -> Vec<u8> {
             .collect(),
         Names::Any => (0..random.between(1, 12)).map(|_| random.byte()).collect(),
         Names::Long => {
-            let length = if random.once_in(3) {
-                255
-            } else {
-                random.between(100, 255)
+            let length = match random.below(3) {
+                0 => 255,
+                1 => random.between(30, 34),
+                _ => random.between(100, 255),
             };
             (0..length)
                 .map(|k| if k + 3 < length { b'q' } else { random.byte() })

@@ -96,8 +96,8 @@ Without FILE, or for -, they go to standard output.
         does: "a file of the same bytes: created, or its fork replaced",
         more: "\
 Without --as the name is FILE's own. A file that is there keeps its number,
-type, creator and creation date. A new one has the type and creator given,
-???? for each that is not.
+type, creator and creation date. A new one has a name of at most 31 characters,
+and the type and creator given, ???? for each that is not.
 ",
         options: &["-r", "--as", "--type", "--creator", "--date"],
         fewest: 2,
