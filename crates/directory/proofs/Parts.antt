@@ -1,5 +1,5 @@
 -- Laws of the fields of an entry: they are the same in the image, counted from the entry's start.
-use Prim.Native.Nat.{ℕ, zero, suc, _+_, _-_, _≤_, _<_}
+use Prim.Native.Nat.{ℕ, _+_, _-_, _≤_, _<_}
 use mathlib.Core.Path.{_≡_, sym, ap, _∙_}
 use mathlib.Core.List.{List, _++_}
 use native.Mathlib.Omega.{arith}
@@ -12,6 +12,7 @@ use Rattle.model.specs.declared.DirectoryEntry.{DirectoryEntry}
 use Rattle.model.specs.declared.ForkFacts.{ForkFacts}
 use Rattle.model.specs.declared.Fork.{Fork}
 use Rattle.model.specs.declared.Fork.the-variants.{Data, Resource}
+use Rattle.model.proofs.Bytes.{drop-zeros}
 use Rattle.laws.proofs.Stores.{drop-take-add, be16-drop, be32-drop}
 use Rattle.directory.specs.declared.EntryAt.{EntryAt}
 use Rattle.directory.specs.Cursor.{bytesAt, Stands}
@@ -121,11 +122,6 @@ module _ (image : List ℕ) (e : EntryAt) (s : Stands image e) where
       }
 
 -- ---- a name put before zeros
-
-drop-zeros : (n k : ℕ) → drop k (zeros n) ≡ zeros (n - k)
-drop-zeros n zero = let e : n ≡ n - 0 = omega arith in ap zeros e
-drop-zeros zero (suc k) = let e : 0 ≡ 0 - suc k = omega arith in ap zeros e
-drop-zeros (suc n) (suc k) = let e : n - k ≡ suc n - suc k = omega arith in drop-zeros n k ∙ ap zeros e
 
 pub wide-are : (m : List ℕ) (n : ℕ) → length m ≡ n → m ++ drop n (zeros 255) ≡ wide m
 unfolding wide

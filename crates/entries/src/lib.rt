@@ -12,6 +12,8 @@ pub use counts::put_next;
 pub use fork_fields::store_fork;
 pub use insert::find_room;
 pub use insert::insert_entry;
+pub use numbers::put16_at;
+pub use numbers::put32_at;
 pub use remove::remove_entry;
 
 // Where a new entry has room.

@@ -12,8 +12,9 @@ use Rattle.model.specs.Lists.{any}
 use Rattle.model.specs.Bytes.{byte, Bytes}
 use Rattle.model.specs.Facts.{factsOf, A, freeCount, isLocked}
 use Rattle.model.specs.Directory.{directory, forkOf, flagsLock, blockCount, named}
-use Rattle.model.specs.Check.{orElse}
-use Rattle.model.specs.Calls.{Call, Does, Fits, nameOf, forkGiven, badName, grown, needed, refuses, entryNamed, knownIn, change, only, reply, lent}
+use Rattle.model.specs.Check.{orElse, verdict}
+use Rattle.model.specs.Calls.{Call, Does, Fits, nameOf, forkGiven, badName, grown, needed, checks, refuses, entryNamed, knownIn, change}
+use Rattle.model.specs.Calls.{only, reply, lent}
 use Rattle.model.specs.Calls.Call.{write, cut, delete}
 use Rattle.directory.specs.Cursor.{bytesAt}
 use Rattle.model.specs.declared.VolumeFacts.{VolumeFacts}
@@ -30,8 +31,9 @@ use Rattle.files.specs.Lookup.{barred, Barred, Changeable, MayChange, be
 use Rattle.files.proofs.Forks.{named-bytes, named-fork}
 use Rattle.files.proofs.Replies.{fires-before, refuse, serve}
 
--- the call's refusals begin so, and it tells nothing but its number
+-- the call checks 1 to 10 first, its own refusals begin so, and it tells nothing but its number
 pub record Changing (call : Call) (image name : List ℕ) (beyond : Bool) (rest : ℕ) : Type 0 where
+  pub first : checks call image ≡ verdict image
   pub own : refuses call (knownIn image (nameOf call) (forkGiven call)) ≡ barred image name beyond rest
   pub lends : lent call ≡ []
   pub tells : reply call image ≡ only 0 []
@@ -46,16 +48,16 @@ behindOffset image name fork offset bytes =
 module _ {image name : List ℕ} where
   pub write-changing : {fork : Fork} {offset : ℕ} {bytes : List ℕ} {changed : ℕ}
       → Changing (write name fork offset bytes changed) image name (beyondEnd image name fork offset) (behindOffset image name fork offset bytes)
-  unfolding refuses knownIn nameOf forkGiven lent reply
-  write-changing = record { own = refl; lends = refl; tells = refl }
+  unfolding checks refuses knownIn nameOf forkGiven lent reply
+  write-changing = record { first = refl; own = refl; lends = refl; tells = refl }
 
   pub cut-changing : {fork : Fork} {size changed : ℕ} → Changing (cut name fork size changed) image name (beyondEnd image name fork size) 0
-  unfolding refuses knownIn nameOf forkGiven lent reply
-  cut-changing = record { own = refl; lends = refl; tells = refl }
+  unfolding checks refuses knownIn nameOf forkGiven lent reply
+  cut-changing = record { first = refl; own = refl; lends = refl; tells = refl }
 
   pub delete-changing : Changing (delete name) image name false 0
-  unfolding refuses knownIn nameOf forkGiven lent reply
-  delete-changing = record { own = refl; lends = refl; tells = refl }
+  unfolding checks refuses knownIn nameOf forkGiven lent reply
+  delete-changing = record { first = refl; own = refl; lends = refl; tells = refl }
 
 -- ---- the file that may be changed
 
@@ -159,7 +161,7 @@ module _ {f : VolumeFacts} {image : List ℕ} (r : Readable f image) (octets : B
     {call : Call} {name : List ℕ} {beyond : Bool} {rest : ℕ} (c : Changing call image name beyond rest) (fits : Fits call) where
   -- refused by n
   stops : (n : ℕ) → n ≡ barred image name beyond rest → (n ≡ 0 → ⊥) → Does call image (toldNumber n) image
-  stops n h z = subst (λ (l : List ℕ). Does call image (only n l) image) (c .lends) (refuse r octets call n fits (h ∙ sym (c .own)) z)
+  stops n h z = subst (λ (l : List ℕ). Does call image (only n l) image) (c .lends) (refuse r octets call n fits (c .first) (h ∙ sym (c .own)) z)
 
   -- 11, 12, 13, 15 or 16
   pub refused : {n : ℕ} → Barred image name beyond n → Does call image (toldNumber n) image
@@ -176,4 +178,4 @@ module _ {f : VolumeFacts} {image : List ℕ} (r : Readable f image) (octets : B
     pub done : rest ≡ 0 → {left : List ℕ} → left ≡ change call image → Does call image (toldNumber 0) left
     done q l =
         subst (λ (x : List ℕ). Does call image (only 0 []) x) (sym l)
-        (subst (λ x. Does call image x (change call image)) (c .tells) (serve r octets call fits (c .own ∙ past-16 ∙ q)))
+        (subst (λ x. Does call image x (change call image)) (c .tells) (serve r octets call fits (c .first) (c .own ∙ past-16 ∙ q)))

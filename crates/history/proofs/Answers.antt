@@ -15,7 +15,7 @@ use Rattle.model.specs.Facts.{factsOf, A, nextNumber, freeCount, isLocked, with
 use Rattle.model.specs.Directory.{directory, numberIn, nameIn, finderIn, forkIn, forkOf, wide, entryIn}
 use Rattle.model.specs.Directory.{noEntry, flagsLock, blockCount, sameName, named}
 use Rattle.model.specs.Check.{sameNumbers, sameNames, Accepted}
-use Rattle.model.specs.Calls.{nameOf, grown, needed, badName, refuses, entryNamed, knownIn, refusal, forkBytes}
+use Rattle.model.specs.Calls.{nameOf, grown, needed, badName, checks, refuses, entryNamed, knownIn, refusal, forkBytes}
 use Rattle.model.specs.Calls.{readCount, copied, only, tellsFacts, tellsEntry, tellsBytes, reply}
 use Rattle.model.specs.Calls.Call.{check, entry, find, read}
 use Rattle.history.specs.History.{Held, File, History, empty, noFile, heldOf, freeOf, factsNow, called, fileCalled, knownTo, unplaced}
@@ -205,9 +205,9 @@ check-says image h acc a z = λ i. record { number = 0; facts = a .facts i; entr
 -- the entry at a place
 pub entry-says : (place : ℕ) (image : List ℕ) (h : History) → Accepted image → Agrees image h → refusal (entry place) image ≡ 0
     → toldBy (reply (entry place) image) ≡ says h (asked image (entry place)) (entry place)
-unfolding toldBy reply says asked tellsEntry refuses knownIn
+unfolding checks toldBy reply says asked tellsEntry refuses knownIn
 entry-says place image h acc a z =
-    let p = else-zero (leb (length (directory image)) place) 12 0 (sym (own-is image acc (entry place)) ∙ z) in
+    let p = else-zero (leb (length (directory image)) place) 12 0 (sym (own-is image acc (entry place) refl) ∙ z) in
     let l = leb-false (length (directory image)) place (p .0) in
     let e = entry-told image h acc a place l ∙ ap (entryOf (A (h .facts))) (same-at image h acc a place l) in
     λ i. record { number = 0; facts = noFacts; entry = e i; count = 0; buffer = [] }
@@ -215,9 +215,9 @@ entry-says place image h acc a z =
 -- the entry of a name
 pub find-says : (name : List ℕ) (image : List ℕ) (h : History) → Accepted image → Agrees image h → refusal (find name) image ≡ 0
     → toldBy (reply (find name) image) ≡ says h (asked image (find name)) (find name)
-unfolding toldBy reply says asked tellsEntry refuses knownIn nameOf
+unfolding checks toldBy reply says asked tellsEntry refuses knownIn nameOf
 find-says name image h acc a z =
-    let p₁ = else-zero (badName name) 11 _ (sym (own-is image acc (find name)) ∙ z) in
+    let p₁ = else-zero (badName name) 11 _ (sym (own-is image acc (find name) refl) ∙ z) in
     let p₂ = else-zero (not (any (named name) (directory image))) 12 0 (p₁ .1) in
     let e = named-told image h acc a name (not-false _ (p₂ .0)) in
     λ i. record { number = 0; facts = noFacts; entry = e i; count = 0; buffer = [] }

@@ -4,6 +4,7 @@ use Prim.Native.Nat.{ℕ, _+_, _-_, _≤_, _<_}
 use mathlib.Core.Path.{_≡_, refl, sym, ap, subst, _∙_}
 use mathlib.Core.Bool.{Bool, true, false, not, _&&_, cond}
 use mathlib.Core.List.{List, [], _∷_, _++_, append-assoc, append-nil}
+use mathlib.Core.Logic.{_↔_, ⊎-elim}
 use native.Mathlib.Omega.{arith}
 use lib.ListN.{length, drop, length-append}
 use lib.Seq.{drop-length}
@@ -20,8 +21,8 @@ use Rattle.model.specs.Calls.{newBlocks, answer, after, lent, Does}
 use Rattle.model.specs.Calls.Call.{read, write, delete}
 use Rattle.history.specs.History.{File, History, blocksOf, noFile, heldOf, called, fileCalled, knownTo, declines, writes}
 use Rattle.model.specs.Bytes.{overwritten}
-use Rattle.history.specs.History.{changedFork, onCalled, moves, step, Told, toldBy, toldOnly, says, tells, filesIn, reading, Agrees, Event, Run}
-use Rattle.history.specs.History.{is18, asked, changes, RoomRule, InStep, Holds, EveryRun}
+use Rattle.history.specs.History.{changedFork, onCalled, moves, step, datesGiven, Told, toldBy, toldOnly, says, tells, filesIn, reading, Agrees}
+use Rattle.history.specs.History.{Event, Run, is18, asked, compared, changes, RoomRule, InStep, Holds, EveryRun}
 use Rattle.history.specs.Among.{HasFile, lastImage}
 use Rattle.history.specs.Untouched.{NoneNames, Untouched}
 use Rattle.history.specs.Deleting.{Deleting}
@@ -40,7 +41,7 @@ use Rattle.laws.proofs.MapChecks.{all-blocks}
 use Rattle.laws.proofs.Acceptance.{map-passes}
 use Rattle.history.proofs.Answers.{rise-needed, same-free, known-same}
 use Rattle.history.proofs.Reading.{blocks-of}
-use Rattle.history.proofs.Lawful.{Dated, lawful}
+use Rattle.history.proofs.Lawful.{Dated, Compared, Aside, lawful}
 use Rattle.history.proofs.Run.{every-run}
 
 -- the claim on a list of one event
@@ -119,9 +120,9 @@ told-number h full n call = go (declines h full call) (eqb (declines h full call
     go r true e = lawful call .said h n ∙ sym (eqb-true r 0 e)
     go r false e = refl
 
-declined : (e : Event) (image : List ℕ) (h : History) → InStep e image h → e .given .number ≡ declines h (is18 e) (e .call)
+declined : (e : Event) (image : List ℕ) (h : History) → InStep e image h → compared (e .call) ≡ true → e .given .number ≡ declines h (is18 e) (e .call)
 unfolding toldBy
-declined e image h s = ap (λ (t : Told). t .number) (s .told) ∙ told-number h (is18 e) (asked image (e .call)) (e .call)
+declined e image h s k = ap (λ (t : Told). t .number) (s .told k) ∙ told-number h (is18 e) (asked image (e .call)) (e .call)
 
 -- ---- Dates
 
@@ -147,18 +148,42 @@ step-stays h full call x number n t i = go (eqb (declines h full call) 0) (rw n 
     go true u = lawful call .keeps h x u i
     go false u = i
 
+-- a call of one image: the dates of a file of it, and of what it left
+module _ (image left : List ℕ) (call : Call) (given : Answer) (x : File) (s : InStep (record { call = call; given = given; left = left }) image (reading image))
+  where
+    abbrev Kept : Type 0
+    Kept =
+        (touches call given x ≡ false → (HasFile left x ↔ HasFile image x))
+        × (touches call given x ≡ true → HasFile left x → datesGiven call (HasFile image) x)
+
+    -- its answer is compared
+    compared-dates : Compared call → Kept
+    unfolding touches reading
+    compared-dates c =
+        let e : Event = record { call = call; given = given; left = left } in
+        let h = reading image in
+        let n = declined e image h s (c .asked) in
+        let from : HasFile left x → Dated call h x (eqb (given .number) 0 && (changes call && called (nameOf call) x)) =
+        λ i. step-dates h (is18 e) call x (given .number) n (in-reordered noFile x (s .agrees .files) i) in (
+          λ t. (λ i. from i .0 t, λ i. in-reordered noFile x (back (s .agrees .files)) (step-stays h (is18 e) call x (given .number) n t i)),
+          λ t i. from i .1 t,
+        )
+
+    -- it stands aside, and leaves the image
+    aside-dates : Aside call → Kept
+    unfolding touches
+    aside-dates c =
+        let same : left ≡ image = s .still (rw (c .unchanging)) in
+        let not : (n : Bool) → (n && false) ≡ false = λ n. elim n [ true ↦ refl | false ↦ refl ] in (
+          λ t. (λ i. rw same at i, λ i. rw same i),
+          λ t. absurd (so-not _ (not (eqb (given .number) 0)) (rw (c .unchanging) at t)),
+        )
+
 pub dates : Dates
-unfolding Dates touches reading
+unfolding Dates
 dates image left call given x acc m =
-    let e : Event = record { call = call; given = given; left = left } in
-    let s = one-step e image acc m in
-    let h = reading image in
-    let n = declined e image h s in
-    let from : HasFile left x → Dated call h x (eqb (given .number) 0 && (changes call && called (nameOf call) x)) =
-    λ i. step-dates h (is18 e) call x (given .number) n (in-reordered noFile x (s .agrees .files) i) in (
-      λ t. (λ i. from i .0 t, λ i. in-reordered noFile x (back (s .agrees .files)) (step-stays h (is18 e) call x (given .number) n t i)),
-      λ t i. from i .1 t,
-    )
+    let s = one-step (record { call = call; given = given; left = left }) image acc m in
+    ⊎-elim (compared-dates image left call given x s) (aside-dates image left call given x s) (lawful call .joins)
 
 -- ---- InPieces and ReadBack
 
@@ -238,14 +263,14 @@ module _ (name : List ℕ) (fork : Fork) where
   pieces-hold : (pieces : List (List ℕ)) (events : List Event) (final : Event) (image : List ℕ) (h : History) (o q : ℕ) (sofar : List ℕ)
       → Holding h o sofar → o + length sofar ≡ q → Writes name fork q pieces events → Holds image h (events ++ (final ∷ []))
       → (h′ : History) × Holding h′ o (sofar ++ flat pieces) × InStep final (lastImage image events) h′
-  unfolding Writes Holds flat lastImage
+  unfolding Writes Holds flat lastImage compared
   pieces-hold [] [] final image h o q sofar s p w c = (h, subst (Holding h o) (sym (append-nil sofar)) s, c .0)
   pieces-hold [] (e ∷ events) final image h o q sofar s p w c = absurd w
   pieces-hold (xs ∷ pieces) [] final image h o q sofar s p w c = absurd w
   pieces-hold (xs ∷ pieces) (e ∷ events) final image h o q sofar s p w c =
       let full = is18 e in
       let call : e .call ≡ write name fork (o + length sofar) xs (w .0 .0) = w .0 .1 ∙ ap (λ (i : ℕ). write name fork i xs (w .0 .0)) (sym p) in
-      let z = sym (declined e image h (c .0)) ∙ w .1 in
+      let z = sym (declined e image h (c .0) (ap compared call)) ∙ w .1 in
       let n : Holding (step h full (e .call)) o (sofar ++ xs) =
       subst (λ (k : Call). Holding (step h full k) o (sofar ++ xs)) (sym call)
       (write-holds h full o sofar xs (w .0 .0) s (subst (λ (k : Call). declines h full k ≡ 0) call z)) in
@@ -256,21 +281,21 @@ module _ (name : List ℕ) (fork : Fork) where
   -- the first of the pieces shows that the fork reaches to o
   first-allowed : (xs : List ℕ) (pieces : List (List ℕ)) (events : List Event) (final : Event) (image : List ℕ) (h : History) (o : ℕ)
       → Writes name fork o (xs ∷ pieces) events → Holds image h (events ++ (final ∷ [])) → Holding h o []
-  unfolding Writes Holds
+  unfolding Writes Holds compared
   first-allowed xs pieces [] final image h o w c = absurd w
   first-allowed xs pieces (e ∷ events) final image h o w c =
-      let z = sym (declined e image h (c .0)) ∙ w .1 in
+      let z = sym (declined e image h (c .0) (ap compared (w .0 .1))) ∙ w .1 in
       write-allowed h (is18 e) o xs (w .0 .0) (subst (λ (k : Call). declines h (is18 e) k ≡ 0) (w .0 .1) z)
 
   -- a read of bytes that are there
   read-holds : (h : History) (o : ℕ) (all : List ℕ) (e : Event) (image buffer : List ℕ) → Holding h o all → e .call ≡ read name fork o buffer → InStep e image h
       → length buffer ≡ length all → (e .given .number ≡ 0) × (e .given .count ≡ length buffer) × (e .given .buffer ≡ all)
-  unfolding toldBy tells says declines refuses knownTo nameOf forkGiven bytesIn readCount copied
+  unfolding toldBy tells says declines refuses knownTo nameOf forkGiven bytesIn readCount copied compared
   read-holds h o all e image buffer s call c l =
       let full = is18 e in
       let k = read name fork o buffer in
       let z : declines h full k ≡ 0 = rw (s .titled, s .there, le-ltb (length (bytesIn h)) o (omega (arith, s .within))) refl in
-      let t : toldBy (e .given) ≡ says h (asked image (e .call)) k = c .told ∙ rw call (rw z) in
+      let t : toldBy (e .given) ≡ says h (asked image (e .call)) k = c .told (ap compared call) ∙ rw call (rw z) in
       let bytes = bytesIn h in
       let n : readCount (length buffer) (length bytes) o ≡ length buffer = omega (arith, s .within) in (
         ap (λ (t : Told). t .number) t,

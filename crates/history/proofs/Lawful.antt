@@ -9,19 +9,21 @@ use lib.ListN.{length}
 use lib.Dec.{eqb, leb, ltb}
 use borrow.Author.Tests.{not-true, not-false, ltb-true, ltb-false, lt-ltb, le-ltb}
 use Rattle.model.specs.Bytes.{Bytes}
-use Rattle.model.specs.Check.{Accepted}
-use Rattle.model.specs.Calls.{Call, nameOf, forkGiven, Known, grown, needed, badName, tooLong, refuses, refusal, change, only, reply, after, Fits}
+use Rattle.model.specs.Check.{orElse, verdict, Accepted}
+use Rattle.model.specs.Container.{badLengths}
+use Rattle.model.specs.Calls.{Call, nameOf, forkGiven, Known, grown, needed, badName, tooLong, checks, refuses, refusal, change, only, reply, after, Fits}
 use Rattle.model.specs.Calls.{Answer, tellsFacts, tellsEntry, tellsBlock, tellsBytes}
-use Rattle.model.specs.Calls.Call.{check, entry, find, block, read, create, write, cut, delete}
+use Rattle.model.specs.Calls.Call.{check, entry, find, block, read, create, write, cut, delete, wrap}
 use Rattle.history.specs.History.{File, History, noFile, heldOf, called, fileCalled, knownTo, declines, onCalled, Told, toldBy, toldOnly}
-use Rattle.history.specs.History.{Held, newFile, changedFork, dateChanged, datesGiven, says, moves, asked, changes, RoomRule, Agrees}
+use Rattle.history.specs.History.{Held, newFile, changedFork, dateChanged, datesGiven, says, moves, asked, compared, changes, RoomRule, Agrees}
 use Rattle.model.specs.Lists.{any}
 use Rattle.model.specs.Facts.{nextNumber}
 use Rattle.model.specs.declared.Fork.{Fork}
 use Rattle.model.specs.declared.Fork.the-variants.{Data}
 use Rattle.model.proofs.Lists.{so-not, any-at}
 use Rattle.model.proofs.Names.{same-name-refl}
-use Rattle.model.proofs.Check.{else-zero}
+use Rattle.model.proofs.Check.{else-zero, accepted-verdict}
+use Rattle.laws.proofs.Calls.{first-alone}
 use Rattle.laws.proofs.Reorder.{In, in-map, in-keep, in-append, from-last, from-map, from-keep}
 use Rattle.laws.proofs.Refusals.{no-check, other, other-found, other-change, past, fires, withFull, create-fed, create-never}
 use Rattle.history.proofs.Answers.{rise-needed, only-told, check-says, entry-says, find-says, read-says}
@@ -35,7 +37,21 @@ use Rattle.history.proofs.Deletes.{delete-done}
 abbrev pub Dated : Call → History → File → Bool → Type 0
 Dated call h x touched = (touched ≡ false → In noFile x (h .files)) × (touched ≡ true → datesGiven call (λ y. In noFile y (h .files)) x)
 
+-- a call that stands aside: it changes nothing, its answer is not compared, and 17 is none of its numbers
+pub record Aside (call : Call) : Type 0 where
+  pub uncompared : compared call ≡ false
+  pub unchanging : changes call ≡ false
+  pub stays : (h : History) → moves h call ≡ h
+  pub room : (image : List ℕ) (h : History) → Accepted image → RoomRule h call (refusal call image)
+
+-- a call whose answer is compared: it checks 1 to 10 first
+pub record Compared (call : Call) : Type 0 where
+  pub asked : compared call ≡ true
+  pub first : (image : List ℕ) → checks call image ≡ verdict image
+
 pub record Lawful (call : Call) : Type 0 where
+  -- how it joins the list
+  pub joins : Compared call ⊎ Aside call
   -- a success has the number 0, and the history says so
   pub answered : (image : List ℕ) → reply call image .number ≡ 0
   pub said : (h : History) (n : ℕ) → says h n call .number ≡ 0
@@ -45,8 +61,8 @@ pub record Lawful (call : Call) : Type 0 where
   pub room : (h : History) (full : Bool) → RoomRule h call (declines h full call)
   -- refused, or one that only reads, it changes nothing
   pub still : (image : List ℕ) → (changes call && eqb (refusal call image) 0) ≡ false → after call image ≡ image
-  -- not refused, it tells what the history says
-  pub told : (image : List ℕ) (h : History) → Accepted image → Agrees image h → refusal call image ≡ 0
+  -- not refused, it tells what the history says, where its answer is compared
+  pub told : compared call ≡ true → (image : List ℕ) (h : History) → Accepted image → Agrees image h → refusal call image ≡ 0
       → toldBy (reply call image) ≡ says h (asked image call) call
   -- not refused, it leaves an accepted image that reads as the history says, and only the named bytes differ
   pub done : (image : List ℕ) (h : History) → Accepted image → Agrees image h → Bytes image → Fits call → refusal call image ≡ 0
@@ -80,15 +96,16 @@ either-way : (t : Bool) (image : List ℕ) → cond t image image ≡ image
 either-way true image = refl
 either-way false image = refl
 
-reads : (call : Call) → Reads call → ((h : History) (full : Bool) → RoomRule h call (declines h full call))
-    → ((image : List ℕ) (h : History) → Accepted image → Agrees image h → refusal call image ≡ 0
+reads : (call : Call) → Reads call → Compared call ⊎ Aside call → ((h : History) (full : Bool) → RoomRule h call (declines h full call))
+    → (compared call ≡ true → (image : List ℕ) (h : History) → Accepted image → Agrees image h → refusal call image ≡ 0
     → toldBy (reply call image) ≡ says h (asked image call) call)
     → Lawful call
 unfolding after
-reads call d room told =
+reads call d joins room told =
     let leaves : (image : List ℕ) → change call image ≡ image = λ image. ap (λ (t : Unmoved). t .0 image) d in
     let keeps : (h : History) → moves h call ≡ h = λ h. ap (λ (t : Unmoved). t .1 h) d in
     record {
+      joins = joins;
       answered = λ image. ap (λ (t : Unmoved). t .2 image) d;
       said = λ h n. ap (λ (t : Unmoved). t .3 h n) d;
       fed = λ k. sym (ap (λ (t : Unmoved). t .4 k (eqb (refuses call k) 18)) d);
@@ -115,7 +132,7 @@ Moved = Bool × (List ℕ → Answer) × (History → ℕ → Told)
 abbrev Alters : Call → Type 0
 Alters call = _≡_ {A = Moved} (changes call, reply call, λ h n. says h n call) (true, λ image. only 0 [], λ h n. toldOnly 0 [])
 
-alters : (call : Call) → Alters call
+alters : (call : Call) → Alters call → Compared call
     → ((k : Known) → refuses call k ≡ refuses call (withFull k (eqb (refuses call k) 18)))
     → ((h : History) (full : Bool) → RoomRule h call (declines h full call))
     → ((image : List ℕ) (h : History) → Accepted image → Agrees image h → Bytes image → Fits call → refusal call image ≡ 0 → Done call image h)
@@ -123,11 +140,12 @@ alters : (call : Call) → Alters call
     → ((h : History) (full : Bool) (x : File) → declines h full call ≡ 0 → In noFile x (moves h call .files) → Dated call h x (called (nameOf call) x))
     → Lawful call
 unfolding after only toldOnly
-alters call d fed room done keeps dates =
+alters call d first fed room done keeps dates =
     let changing : changes call ≡ true = ap (λ (t : Moved). t .0) d in
     let number : (image : List ℕ) → reply call image ≡ only 0 [] = λ image. ap (λ (t : Moved). t .1 image) d in
     let say : (h : History) (n : ℕ) → says h n call ≡ toldOnly 0 [] = λ h n. ap (λ (t : Moved). t .2 h n) d in
     record {
+      joins = inl first;
       answered = λ image. ap (λ (r : Answer). r .number) (number image);
       said = λ h n. ap (λ (t : Told). t .number) (say h n);
       fed = fed;
@@ -135,7 +153,7 @@ alters call d fed room done keeps dates =
       still = λ image n.
           let refused : eqb (refusal call image) 0 ≡ false = rw changing at n in
           rw refused;
-      told = λ image h acc a z. ap toldBy (number image) ∙ only-told 0 [] ∙ sym (say h (asked image call));
+      told = λ c image h acc a z. ap toldBy (number image) ∙ only-told 0 [] ∙ sym (say h (asked image call));
       done = done;
       keeps = keeps;
       dates = λ h full x z i. rw changing (dates h full x z i);
@@ -242,42 +260,63 @@ never : (call : Call) → ((k : Known) → refuses call k ≡ 17 → ⊥) → (h
 unfolding declines
 never call n h full = n (knownTo h full (nameOf call) (forkGiven call))
 
+-- wrap gives 22 or 0 on an accepted image
+wrap-aside : (name : List ℕ) (format : ℕ) (buffer : List ℕ) → Aside (wrap name format buffer)
+unfolding compared changes moves RoomRule refusal checks refuses
+wrap-aside name format buffer = record {
+  uncompared = refl;
+  unchanging = refl;
+  stays = λ h. refl;
+  room = λ image h acc e.
+      let t = badLengths (length image) (length buffer) (length name) in
+      let n : orElse t 22 0 ≡ 17 =
+      sym (first-alone (orElse t 22 (verdict image)) ∙ ap (orElse t 22) (accepted-verdict image acc)) ∙ e in
+      other t 22 refl no-check n;
+}
+
 pub lawful : (call : Call) → Lawful call
-unfolding change moves reply says changes datesGiven refuses withFull RoomRule nameOf toldBy only toldOnly tellsFacts tellsEntry tellsBlock tellsBytes
-lawful check = reads check refl (never check (λ k. no-check)) check-says
+unfolding checks change moves reply says compared changes datesGiven refuses withFull RoomRule nameOf toldBy only toldOnly
+    tellsFacts tellsEntry tellsBlock tellsBytes
+lawful check = reads check refl (inl (record { asked = refl; first = λ i. refl })) (never check (λ k. no-check)) (λ c. check-says)
 lawful (entry place) =
-    reads (entry place) refl (never (entry place) (λ k. other (leb (k .files) place) 13 refl no-check)) (entry-says place)
+    reads (entry place) refl (inl (record { asked = refl; first = λ i. refl }))
+    (never (entry place) (λ k. other (leb (k .files) place) 13 refl no-check))
+    (λ c. entry-says place)
 lawful (find name) =
-    reads (find name) refl (never (find name) (λ k. other-found name k no-check)) (find-says name)
+    reads (find name) refl (inl (record { asked = refl; first = λ i. refl })) (never (find name) (λ k. other-found name k no-check)) (λ c. find-says name)
 lawful (block name fork place) =
-    reads (block name fork place) refl
+    reads (block name fork place) refl (inl (record { asked = refl; first = λ i. refl }))
     (never (block name fork place) (λ k. other-found name k (other (leb (k .blocks) place) 16 refl no-check)))
-    (λ image h acc a z. only-told 0 [])
+    (λ c image h acc a z. only-told 0 [])
 lawful (read name fork offset buffer) =
-    reads (read name fork offset buffer) refl
+    reads (read name fork offset buffer) refl (inl (record { asked = refl; first = λ i. refl }))
     (never (read name fork offset buffer) (λ k. other-found name k (other (ltb (k .logical) offset) 16 refl no-check)))
-    (read-says name fork offset buffer)
+    (λ c. read-says name fork offset buffer)
 lawful (create name finder made changed) =
-    alters (create name finder made changed) refl (create-fed name finder made changed)
+    alters (create name finder made changed) refl (record { asked = refl; first = λ i. refl }) (create-fed name finder made changed)
     (never (create name finder made changed) (create-never name finder made changed))
     (create-done name finder made changed)
     (λ h x n i. in-append noFile x (h .files) _ i)
     (λ h full x. created-dates name finder made changed h x full)
 lawful (write name fork offset bytes changed) =
-    alters (write name fork offset bytes changed) refl (λ k. refl)
+    alters (write name fork offset bytes changed) refl (record { asked = refl; first = λ i. refl }) (λ k. refl)
     (write-room name fork offset bytes changed)
     (write-done name fork offset bytes changed)
     (λ h x n i. in-map noFile x _ (not-called name _ x n) (h .files) i)
     (λ h full x z. changed-dates name fork _ changed (h .files) x)
 lawful (cut name fork size changed) =
-    alters (cut name fork size changed) refl (λ k. refl)
+    alters (cut name fork size changed) refl (record { asked = refl; first = λ i. refl }) (λ k. refl)
     (never (cut name fork size changed) (λ k. other-change name k (other (ltb (k .logical) size) 16 refl no-check)))
     (cut-done name fork size changed)
     (λ h x n i. in-map noFile x _ (not-called name _ x n) (h .files) i)
     (λ h full x z. changed-dates name fork _ changed (h .files) x)
 lawful (delete name) =
-    alters (delete name) refl (λ k. refl)
+    alters (delete name) refl (record { asked = refl; first = λ i. refl }) (λ k. refl)
     (never (delete name) (λ k. other-change name k no-check))
     (delete-done name)
     (λ h x n i. in-keep noFile x (λ y. not (called name y)) (rw n) (h .files) i)
     (λ h full x z. deleted-dates name h x)
+lawful (wrap name format buffer) =
+    reads (wrap name format buffer) refl (inr (wrap-aside name format buffer))
+    (never (wrap name format buffer) (λ k. no-check))
+    (λ c. absurd (so-not false refl c))

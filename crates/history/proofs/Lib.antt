@@ -9,3 +9,4 @@ pub mod Creates
 pub mod Lawful
 pub mod Run
 pub mod Corollaries
+pub mod Wrapped

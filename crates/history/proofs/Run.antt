@@ -3,21 +3,23 @@ use Prim.Native.Nat.{ℕ, zero, suc}
 use mathlib.Core.Path.{_≡_, refl, sym, ap, subst, _∙_}
 use mathlib.Core.Bool.{Bool, true, false, cond}
 use mathlib.Core.List.{List, [], _∷_}
+use mathlib.Core.Logic.{_⊎_, inl, inr}
 use native.Mathlib.Decide.{ℕ-discrete}
 use lib.Dec.{eqb, eqb·suc-zero}
 use borrow.Author.Tests.{eqb-true, eq-eqb, ne-eqb}
-use Rattle.model.specs.Check.{Accepted}
-use Rattle.model.specs.Calls.{Call, nameOf, forkGiven, Known, refuses, knownIn, refusal, change, only, reply, lent, answer, Does}
-use Rattle.history.specs.History.{History, knownTo, declines, moves, step, says, tells, toldBy, toldOnly, asked, Agrees, reading}
+use Rattle.model.specs.Check.{verdict, Accepted}
+use Rattle.model.specs.Calls.{Call, nameOf, forkGiven, Known, checks, refuses, knownIn, refusal, change, only, reply, lent, answer, Does}
+use Rattle.history.specs.History.{History, knownTo, declines, moves, step, says, tells, toldBy, toldOnly, asked, compared, Agrees, reading}
 use Rattle.history.specs.History.{Told, Event, Run, is18, RoomRule, InStep, Holds, EveryRun}
+use Rattle.model.proofs.Lists.{so-not}
 use Rattle.laws.proofs.Refusals.{own-is, refused, done, withFull}
 use Rattle.history.proofs.Answers.{known-same, only-told}
 use Rattle.history.proofs.Reading.{starts}
 use Rattle.history.proofs.Joined.{stays}
-use Rattle.history.proofs.Lawful.{lawful}
+use Rattle.history.proofs.Lawful.{Compared, Aside, lawful}
 
 -- the number of an answer is the refusal, or 0
-number-is : (call : Call) (image : List ℕ) → answer call image .number ≡ refusal call image
+pub number-is : (call : Call) (image : List ℕ) → answer call image .number ≡ refusal call image
 unfolding answer only
 number-is call image = go (refusal call image) (eqb (refusal call image) 0) refl
   where
@@ -25,41 +27,60 @@ number-is call image = go (refusal call image) (eqb (refusal call image) 0) refl
     go r true e = lawful call .answered image ∙ sym (eqb-true r 0 e)
     go r false e = refl
 
+either-way : (t : Bool) (h : History) → cond t h h ≡ h
+either-way true h = refl
+either-way false h = refl
+
 -- a call on an accepted image that reads as a history
 module _ (image : List ℕ) (h : History) (acc : Accepted image) (a : Agrees image h) (call : Call) where
-  -- the refusal
-  same-refusal : refusal call image ≡ declines h (eqb (refusal call image) 18) call
+  -- the refusal, where the call checks 1 to 10 first
+  same-refusal : Compared call → refusal call image ≡ declines h (eqb (refusal call image) 18) call
   unfolding declines knownTo withFull
-  same-refusal =
+  same-refusal c =
       let k = knownIn image (nameOf call) (forkGiven call) in
-      own-is image acc call
+      own-is image acc call (c .first image)
       ∙ lawful call .fed k
-      ∙ ap (λ (n : ℕ). refuses call (withFull k (eqb n 18))) (sym (own-is image acc call))
+      ∙ ap (λ (n : ℕ). refuses call (withFull k (eqb n 18))) (sym (own-is image acc call (c .first image)))
       ∙ ap (λ (k : Known). refuses call (withFull k (eqb (refusal call image) 18))) (sym (known-same image h acc a (nameOf call) (forkGiven call)))
 
   -- the history's step
   step-refused : (refusal call image ≡ 0 → ⊥) → step h (eqb (refusal call image) 18) call ≡ h
   unfolding step
-  step-refused z = rw (← same-refusal, ne-eqb (refusal call image) 0 z)
+  step-refused z = go (lawful call .joins)
+    where
+      go : Compared call ⊎ Aside call → step h (eqb (refusal call image) 18) call ≡ h
+      go (inl c) = rw (← same-refusal c, ne-eqb (refusal call image) 0 z)
+      go (inr s) = rw (s .stays h) (either-way (eqb (declines h (eqb (refusal call image) 18) call) 0) h)
 
   step-done : refusal call image ≡ 0 → step h (eqb (refusal call image) 18) call ≡ moves h call
   unfolding step
-  step-done z = rw (← same-refusal, eq-eqb (refusal call image) 0 z)
+  step-done z = go (lawful call .joins)
+    where
+      go : Compared call ⊎ Aside call → step h (eqb (refusal call image) 18) call ≡ moves h call
+      go (inl c) = rw (← same-refusal c, eq-eqb (refusal call image) 0 z)
+      go (inr s) = rw (s .stays h) (either-way (eqb (declines h (eqb (refusal call image) 18) call) 0) h)
 
   -- refusal 17
   room-rule : RoomRule h call (answer call image .number)
-  room-rule =
-      subst (λ (n : ℕ). RoomRule h call n) (sym (number-is call image ∙ same-refusal)) (lawful call .room h (eqb (refusal call image) 18))
+  room-rule = subst (λ (n : ℕ). RoomRule h call n) (sym (number-is call image)) (go (lawful call .joins))
+    where
+      go : Compared call ⊎ Aside call → RoomRule h call (refusal call image)
+      go (inl c) = subst (λ (n : ℕ). RoomRule h call n) (sym (same-refusal c)) (lawful call .room h (eqb (refusal call image) 18))
+      go (inr s) = s .room image h acc
 
   -- the answer
-  same-told : toldBy (answer call image) ≡ tells h (eqb (refusal call image) 18) (asked image call) call
+  same-told : compared call ≡ true → toldBy (answer call image) ≡ tells h (eqb (refusal call image) 18) (asked image call) call
   unfolding answer tells
-  same-told = rw (← same-refusal) (go (refusal call image) refl)
+  same-told k = join (lawful call .joins)
     where
       go : (n : ℕ) → refusal call image ≡ n
           → toldBy (cond (eqb n 0) (reply call image) (only n (lent call))) ≡ cond (eqb n 0) (says h (asked image call) call) (toldOnly n (lent call))
-      go zero e = lawful call .told image h acc a e
+      go zero e = lawful call .told k image h acc a e
       go (suc n) e = rw (eqb·suc-zero n) (only-told (suc n) (lent call))
+
+      join : Compared call ⊎ Aside call → toldBy (answer call image) ≡ tells h (eqb (refusal call image) 18) (asked image call) call
+      join (inl c) = rw (← same-refusal c) (go (refusal call image) refl)
+      join (inr s) = absurd (so-not (compared call) (s .uncompared) k)
 
 -- one event
 pub event : (e : Event) (image : List ℕ) (h : History) → Accepted image → Agrees image h → Does (e .call) image (e .given) (e .left) → InStep e image h
@@ -68,7 +89,8 @@ event e image h acc a m =
     let call = e .call in
     let n : e .given .number ≡ refusal call image = ap (λ r. r .number) (m .answers) ∙ number-is call image in
     let tell : ℕ → Told = λ k. tells h (eqb k 18) (asked image call) call in
-    let told : toldBy (e .given) ≡ tell (e .given .number) = ap toldBy (m .answers) ∙ same-told image h acc a call ∙ sym (ap tell n) in
+    let told : compared call ≡ true → toldBy (e .given) ≡ tell (e .given .number) =
+    λ k. ap toldBy (m .answers) ∙ same-told image h acc a call k ∙ sym (ap tell n) in
     let room = subst (λ r. RoomRule h call (r .number)) (sym (m .answers)) (room-rule image h acc a call) in
     elim (ℕ-discrete (refusal call image) 0) [
       | yes z ↦

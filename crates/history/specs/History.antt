@@ -14,7 +14,7 @@ use Rattle.model.specs.Map.{mapEntry}
 use Rattle.model.specs.Directory.{directory, numberIn, nameIn, finderIn, forkOf, wide, noEntry, flagsLock, blockCount, forkBlocks, sameName}
 use Rattle.model.specs.Check.{Accepted}
 use Rattle.model.specs.Calls.{Call, Known, fewest, badName, refuses, nameOf, forkGiven, entryNamed, forkBytes, readCount, copied, Answer, lent, Does}
-use Rattle.model.specs.Calls.Call.{check, entry, find, block, read, create, write, cut, delete}
+use Rattle.model.specs.Calls.Call.{check, entry, find, block, read, create, write, cut, delete, wrap}
 use Rattle.model.specs.declared.LogicalBlock.{LogicalBlock}
 use Rattle.model.specs.declared.VolumeFacts.{VolumeFacts}
 use Rattle.model.specs.declared.DirectoryEntry.{DirectoryEntry}
@@ -75,8 +75,8 @@ called name x = sameName name (x .name)
 unfoldable pub fileCalled : List ℕ → History → File
 fileCalled name h = first (called name) noFile (h .files)
 
--- All refusals but 1 to 10 it decides by the table and its order, from the arguments and what it holds, and it is fed whether
--- the answer is 18.
+-- All refusals but 1 to 10 and wrap's 22 it decides by the table and its order, from the arguments and what it holds, and it is fed
+-- whether the answer is 18.
 unfoldable pub knownTo : History → Bool → List ℕ → Fork → Known
 knownTo h full name fork =
     let x = fileCalled name h in
@@ -235,6 +235,8 @@ pub record Following : Type 1 where
   pub says : History → ℕ → Told
   -- that number
   pub asked : List ℕ → ℕ
+  -- whether its answer is compared
+  pub compared : Bool
   -- whether the call may change the image, the blocks that an image gives to the fork that it names (for a delete, to both
   -- forks), and how many directory blocks may differ
   pub changes : Bool
@@ -263,6 +265,21 @@ reads says asked = record {
   moves = λ h. h;
   says = says;
   asked = asked;
+  compared = true;
+  changes = false;
+  blocks = λ image. [];
+  directories = 0;
+  room = never17;
+  dates = noDates;
+}
+
+-- a call that changes nothing and whose answer is not compared
+abbrev stands : Following
+stands = record {
+  moves = λ h. h;
+  says = λ h n. toldOnly 0 [];
+  asked = λ image. 0;
+  compared = false;
   changes = false;
   blocks = λ image. [];
   directories = 0;
@@ -276,6 +293,7 @@ alters moves blocks room dates = record {
   moves = moves;
   says = λ h n. toldOnly 0 [];
   asked = λ image. 0;
+  compared = true;
   changes = true;
   blocks = blocks;
   directories = 1;
@@ -343,6 +361,8 @@ following (delete name) = alters
     (λ image. blocksNamed image name Data ++ blocksNamed image name Resource)
     never17
     noDates
+-- Wrap leaves the image; a call that is added later joins the list with the step its request gives it, or as one like this.
+following (wrap name format buffer) = stands
 
 -- ---- The history after a call, and what it tells of it
 
@@ -413,6 +433,10 @@ is18 e = eqb (e .given .number) 18
 unfoldable pub asked : List ℕ → Call → ℕ
 asked image call = following call .asked image
 
+-- calls whose answers are compared
+unfoldable pub compared : Call → Bool
+compared call = following call .compared
+
 -- ---- Which bytes may differ
 
 -- calls that may change the image
@@ -461,8 +485,8 @@ pub record InStep (e : Event) (image : List ℕ) (h : History) : Type 0 where
   pub accepted : Accepted (e .left)
   -- it reads as the history says
   pub agrees : Agrees (e .left) (step h (is18 e) (e .call))
-  -- the answers agree
-  pub told : toldBy (e .given) ≡ tells h (is18 e) (asked image (e .call)) (e .call)
+  -- the answers agree, where they are compared
+  pub told : compared (e .call) ≡ true → toldBy (e .given) ≡ tells h (is18 e) (asked image (e .call)) (e .call)
   -- only the named bytes differ
   pub kept : OnlyNamed (e .call) image (e .left)
   -- a refused call and one that only reads change nothing

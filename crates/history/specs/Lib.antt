@@ -7,3 +7,5 @@ pub mod Room
 pub mod InPieces
 pub mod ReadBack
 pub mod EveryList
+pub mod WrappedRuns
+pub mod Wrapping

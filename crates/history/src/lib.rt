@@ -7,6 +7,8 @@ ghost use Rattle.history.specs.InPieces.{InPieces};
 ghost use Rattle.history.specs.ReadBack.{ReadBack};
 ghost use Rattle.history.specs.Room.{Room};
 ghost use Rattle.history.specs.Untouched.{Untouched};
+ghost use Rattle.history.specs.WrappedRuns.{EveryWrappedList, WrappedRuns};
+ghost use Rattle.history.specs.Wrapping.{Wrapping};
 
 // Every list of calls from an accepted image keeps step with its history.
 pub fn every_run()
@@ -51,4 +53,21 @@ pub fn read_back()
 // No list of calls falls out of the claim: whatever is called has a run, and that run keeps step with its history.
 pub fn every_list()
     ensures { λ _. ⌜ EveryList ⌝ }
+{}
+
+// Wrapped files.
+
+// Every list of the nine calls from a sound container with an accepted image inside keeps step with its history.
+pub fn wrapped_runs()
+    ensures { λ _. ⌜ WrappedRuns ⌝ }
+{}
+
+// No list of the nine calls on a wrapped file falls out of that claim.
+pub fn every_wrapped_list()
+    ensures { λ _. ⌜ EveryWrappedList ⌝ }
+{}
+
+// A wrapped image unwraps to the image.
+pub fn wrapping()
+    ensures { λ _. ⌜ Wrapping ⌝ }
 {}

@@ -6,28 +6,33 @@ use mathlib.Core.List.{List}
 use native.Mathlib.Omega.{arith}
 use borrow.Author.Tests.{eq-eqb, ne-eqb}
 use Rattle.model.specs.Bytes.{Bytes}
-use Rattle.model.specs.Check.{firstOf, verdict}
-use Rattle.model.specs.Calls.{Call, nameOf, forkGiven, refuses, knownIn, refusal, change, only, reply, lent, answer, after, Fits, Does}
+use Rattle.model.specs.Check.{firstOf}
+use Rattle.model.specs.Calls.{Call, nameOf, forkGiven, checks, refuses, knownIn, refusal, change, only, reply, lent, answer, after, Fits, Does}
 
-first-zero : (a b : ℕ) → a ≡ 0 → firstOf a b ≡ b
+pub first-zero : (a b : ℕ) → a ≡ 0 → firstOf a b ≡ b
 unfolding firstOf
 first-zero a b h = rw h
 
-first-fires : (a b : ℕ) → (a ≡ 0 → ⊥) → firstOf a b ≡ a
+pub first-fires : (a b : ℕ) → (a ≡ 0 → ⊥) → firstOf a b ≡ a
 unfolding firstOf
 first-fires zero b h = absurd (h refl)
 first-fires (suc a) b h = refl
 
--- a number of 1 to 10
-pub by-volume : (call : Call) (image : List ℕ) (n : ℕ) → n ≡ verdict image → (n ≡ 0 → ⊥) → n ≡ refusal call image
+pub first-alone : (n : ℕ) → firstOf n 0 ≡ n
+unfolding firstOf
+first-alone zero = refl
+first-alone (suc n) = refl
+
+-- the number of what a call checks first
+pub by-checks : (call : Call) (image : List ℕ) (n : ℕ) → n ≡ checks call image → (n ≡ 0 → ⊥) → n ≡ refusal call image
 unfolding refusal
-by-volume call image n h z = h ∙ sym (first-fires (verdict image) (refuses call (knownIn image (nameOf call) (forkGiven call))) (λ e. z (h ∙ e)))
+by-checks call image n h z = h ∙ sym (first-fires (checks call image) (refuses call (knownIn image (nameOf call) (forkGiven call))) (λ e. z (h ∙ e)))
 
 -- a call's own number, 0 too
-pub by-own : (call : Call) (image : List ℕ) (n : ℕ) → verdict image ≡ 0 → n ≡ refuses call (knownIn image (nameOf call) (forkGiven call))
+pub by-own : (call : Call) (image : List ℕ) (n : ℕ) → checks call image ≡ 0 → n ≡ refuses call (knownIn image (nameOf call) (forkGiven call))
     → n ≡ refusal call image
 unfolding refusal
-by-own call image n v h = h ∙ sym (first-zero (verdict image) (refuses call (knownIn image (nameOf call) (forkGiven call))) v)
+by-own call image n v h = h ∙ sym (first-zero (checks call image) (refuses call (knownIn image (nameOf call) (forkGiven call))) v)
 
 -- the two kinds of return of every call
 pub does-refuse : (call : Call) (image : List ℕ) (n : ℕ) → Bytes image → Fits call → n ≡ refusal call image → (n ≡ 0 → ⊥)

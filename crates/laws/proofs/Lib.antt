@@ -28,3 +28,5 @@ pub mod Cuts
 pub mod Deletes
 pub mod Creates
 pub mod BytesKept
+pub mod Containers
+pub mod Wrapped

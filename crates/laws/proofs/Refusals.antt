@@ -1,7 +1,7 @@
 -- What a refusal and a success of a call mean: the image that each leaves, the number on an accepted image, where it is 17 and how it
 -- depends on 18, and what the tests of a changing call that is not refused have shown.
 use Prim.Native.Nat.{ℕ, zero, suc, _+_, _≤_}
-use mathlib.Core.Path.{_≡_, refl, sym}
+use mathlib.Core.Path.{_≡_, refl, sym, _∙_}
 use mathlib.Core.Bool.{Bool, true, false, not}
 use mathlib.Core.List.{List}
 use native.Mathlib.Omega.{arith}
@@ -13,12 +13,12 @@ use Rattle.model.specs.Bytes.{byte}
 use Rattle.model.specs.Facts.{factsOf, A, nextNumber, freeCount, isLocked}
 use Rattle.model.specs.Directory.{padded, directoryBlocks, directory, forkOf, flagsLock, blockCount, named}
 use Rattle.model.specs.Check.{orElse, firstOf, verdict, Accepted}
-use Rattle.model.specs.Calls.{Call, Known, nameOf, forkGiven, grown, needed, badName, tooLong, refuses, entryNamed, hasRoom, knownIn, refusal, change}
-use Rattle.model.specs.Calls.{after}
+use Rattle.model.specs.Calls.{Call, Known, nameOf, forkGiven, grown, needed, badName, tooLong, checks, refuses, entryNamed, hasRoom, knownIn, refusal}
+use Rattle.model.specs.Calls.{change, after}
 use Rattle.model.specs.Calls.Call.{create, write, cut, delete}
 use Rattle.model.specs.declared.Fork.{Fork}
 use Rattle.model.proofs.Lists.{or-false}
-use Rattle.model.proofs.Check.{else-zero, verdict-accepted, accepted-verdict}
+use Rattle.model.proofs.Check.{else-zero, accepted-verdict}
 use Rattle.laws.proofs.Calls.{by-own}
 
 -- ---- the image that a call leaves
@@ -33,10 +33,11 @@ done call image z = rw (eq-eqb (refusal call image) 0 z)
 
 -- ---- numbers
 
--- on an accepted image the number is the call's own
-pub own-is : (image : List ℕ) → Accepted image → (call : Call) → refusal call image ≡ refuses call (knownIn image (nameOf call) (forkGiven call))
-own-is image acc call =
-    sym (by-own call image (refuses call (knownIn image (nameOf call) (forkGiven call))) (accepted-verdict image acc) refl)
+-- on an accepted image the number of a call that checks 1 to 10 first is its own
+pub own-is : (image : List ℕ) → Accepted image → (call : Call) → checks call image ≡ verdict image
+    → refusal call image ≡ refuses call (knownIn image (nameOf call) (forkGiven call))
+own-is image acc call c =
+    sym (by-own call image (refuses call (knownIn image (nameOf call) (forkGiven call))) (c ∙ accepted-verdict image acc) refl)
 
 -- no other number is 17
 pub no-check : _≡_ {A = ℕ} 0 17 → ⊥
@@ -144,21 +145,16 @@ pub record MayCut (image name : List ℕ) (fork : Fork) (size : ℕ) : Type 0 wh
   pub file : MayChangeFile image name
   pub within : size ≤ forkOf fork (entryNamed name image) .logical
 
--- the first number is 0 where the answer is
-first-zero : (m n : ℕ) → firstOf m n ≡ 0 → (m ≡ 0) × (n ≡ 0)
+-- both numbers are 0 where the answer is
+both-zero : (m n : ℕ) → firstOf m n ≡ 0 → (m ≡ 0) × (n ≡ 0)
 unfolding firstOf
-first-zero zero n h = (refl, h)
-first-zero (suc m) n h = absurd (omega arith)
+both-zero zero n h = (refl, h)
+both-zero (suc m) n h = absurd (omega arith)
 
 module _ (image : List ℕ) where
-  -- a call that is not refused was made on an accepted image
-  pub done-accepted : (call : Call) → refusal call image ≡ 0 → Accepted image
-  unfolding refusal
-  done-accepted call z = verdict-accepted image (first-zero (verdict image) _ z .0)
-
   own-zero : (call : Call) → refusal call image ≡ 0 → refuses call (knownIn image (nameOf call) (forkGiven call)) ≡ 0
   unfolding refusal
-  own-zero call z = first-zero (verdict image) _ z .1
+  own-zero call z = both-zero (checks call image) _ z .1
 
   pub may-create : (name finder : List ℕ) (created changed : ℕ) → refusal (create name finder created changed) image ≡ 0 → MayCreate image name
   unfolding refuses knownIn nameOf forkGiven

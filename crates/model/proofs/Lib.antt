@@ -6,4 +6,5 @@ pub mod Times
 pub mod Names
 pub mod Map
 pub mod Check
+pub mod Container
 pub mod Cases

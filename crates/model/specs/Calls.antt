@@ -1,4 +1,4 @@
--- The calls: their arguments, the refusals after 1 to 10, what each answers and what each leaves.
+-- The calls: their arguments, their refusals, what each answers and what each leaves.
 use Prim.Native.Nat.{ℕ, zero, suc, _+_, _-_, _*_, _/_, _%_, _^_, _<_, min, max}
 use mathlib.Core.Path.{_≡_}
 use mathlib.Core.Bool.{Bool, true, false, _&&_, _||_, not, cond}
@@ -13,6 +13,7 @@ use Rattle.model.specs.Map.{mapEntry, freeBlocks, putChain, putFree}
 use Rattle.model.specs.Directory.{sizeFor, entries, readEnd, directoryBlocks, directory, forkPlace, forkOf, entryIn, noEntry, flagsLock, blockCount}
 use Rattle.model.specs.Directory.{forkBlocks, named}
 use Rattle.model.specs.Check.{orElse, firstOf, verdict}
+use Rattle.model.specs.Container.{badLengths, wrapping}
 use Rattle.model.specs.declared.VolumeFacts.{VolumeFacts}
 use Rattle.model.specs.declared.DirectoryEntry.{DirectoryEntry}
 use Rattle.model.specs.declared.ForkFacts.{ForkFacts}
@@ -21,7 +22,7 @@ use Rattle.model.specs.declared.LogicalBlock.{LogicalBlock}
 use Rattle.model.specs.declared.Fork.{Fork}
 use Rattle.model.specs.declared.Fork.the-variants.{Data, Resource}
 
--- a call with all its arguments; read's buffer is the one that is lent
+-- a call with all its arguments; the buffer of read and of wrap is the one that is lent
 pub data Call : Type 0 where
   check : Call
   entry : (place : ℕ) → Call
@@ -32,6 +33,7 @@ pub data Call : Type 0 where
   write : (name : List ℕ) (fork : Fork) (offset : ℕ) (bytes : List ℕ) (changed : ℕ) → Call
   cut : (name : List ℕ) (fork : Fork) (size changed : ℕ) → Call
   delete : (name : List ℕ) → Call
+  wrap : (name : List ℕ) (format : ℕ) (buffer : List ℕ) → Call
 
 -- ---- The refusals after 1 to 10
 
@@ -278,21 +280,24 @@ tellsBytes bytes o buffer = record {
 
 -- ---- What each call means
 
--- one clause for each call in `meaning`: its arguments, its refusals after 1 to 10, and what it answers and leaves where it is
--- not refused
+-- one clause for each call in `meaning`: its arguments, its refusals, and what it answers and leaves where it is not refused
 pub record Meaning : Type 1 where
-  -- the name and the fork that it is given; [] and Data where it is given none
+  -- the name of a file and the fork that it is given; [] and Data where it is given none
   pub name : List ℕ
   pub fork : Fork
   -- the buffer that is lent to it
   pub lent : List ℕ
   -- The arguments fit their types; arguments of fixed size come whole.
   pub fits : Type 0
-  -- its numbers in the papers' order, 0 where none is given
+  -- the number of what it checks of the image first, 0 where that passes: 1 to 10, before which wrap has 22
+  pub checks : List ℕ → ℕ
+  -- its numbers after them in the papers' order, 0 where none is given
   pub refuses : Known → ℕ
   -- what it answers, and the image that it leaves
   pub reply : List ℕ → Answer
   pub change : List ℕ → List ℕ
+  -- whether it serves wrapped files too: the nine calls do, later calls take only bare images
+  pub wrapped : Bool
 
 -- the answer of a call that changes the image is its number alone
 abbrev numberAlone : List ℕ → Answer
@@ -309,9 +314,11 @@ meaning check = record {
   fork = Data;
   lent = [];
   fits = Unit;
+  checks = verdict;
   refuses = λ k. 0;
   reply = λ image. tellsFacts (factsOf image);
   change = unchanged;
+  wrapped = true;
 }
 -- Give the entry at a place in directory order: entry 13.
 meaning (entry place) = record {
@@ -319,9 +326,11 @@ meaning (entry place) = record {
   fork = Data;
   lent = [];
   fits = place < 2 ^ 64;
+  checks = verdict;
   refuses = λ k. orElse (leb (k .files) place) 13 0;
   reply = λ image. tellsEntry 0 (entryIn (getD (directory image) place []));
   change = unchanged;
+  wrapped = true;
 }
 -- Find a name and give its place and entry: find 12, 13.
 meaning (find name) = record {
@@ -329,9 +338,11 @@ meaning (find name) = record {
   fork = Data;
   lent = [];
   fits = Bytes name;
+  checks = verdict;
   refuses = λ k. orElse (badName name) 12 (orElse (not (k .exists)) 13 0);
   reply = λ image. tellsEntry (placeOf (named name) (directory image)) (entryIn (entryNamed name image));
   change = unchanged;
+  wrapped = true;
 }
 -- Give the allocation block at a place in a fork: block 12, 13, 16.
 meaning (block name fork place) = record {
@@ -339,9 +350,11 @@ meaning (block name fork place) = record {
   fork = fork;
   lent = [];
   fits = Bytes name × (place < 2 ^ 64);
+  checks = verdict;
   refuses = λ k. orElse (badName name) 12 (orElse (not (k .exists)) 13 (orElse (leb (k .blocks) place) 16 0));
   reply = λ image. tellsBlock (getD (forkBlocks (mapEntry image) (A (factsOf image)) (forkOf fork (entryNamed name image))) place 0);
   change = unchanged;
+  wrapped = true;
 }
 -- Read fork bytes into a lent buffer: read 12, 13, 16.
 meaning (read name fork offset buffer) = record {
@@ -349,9 +362,11 @@ meaning (read name fork offset buffer) = record {
   fork = fork;
   lent = buffer;
   fits = Bytes name × (offset < 2 ^ 64) × Bytes buffer;
+  checks = verdict;
   refuses = λ k. orElse (badName name) 12 (orElse (not (k .exists)) 13 (orElse (ltb (k .logical) offset) 16 0));
   reply = λ image. tellsBytes (forkBytes (S (factsOf image)) (A (factsOf image)) image (forkOf fork (entryNamed name image))) offset buffer;
   change = unchanged;
+  wrapped = true;
 }
 -- Create an empty file: create 11, 12, 14, 19, 18, and 21 straight after 12 and before 14 (document 02, T-01).
 meaning (create name finder made changed) = record {
@@ -359,10 +374,12 @@ meaning (create name finder made changed) = record {
   fork = Data;
   lent = [];
   fits = Bytes name × Bytes finder × (length finder ≡ 16) × (made < 2 ^ 32) × (changed < 2 ^ 32);
+  checks = verdict;
   refuses = λ k. orElse (k .locked) 11 (orElse (badName name) 12 (orElse (tooLong name) 21 (orElse (k .exists) 14
       (orElse (eqb (k .next) 4294967295) 19 (orElse (k .full) 18 0)))));
   reply = numberAlone;
   change = λ image. created (factsOf image) image (newEntry (nextNumber (factsOf image)) name finder made changed);
+  wrapped = true;
 }
 -- Write fork bytes at an offset: write and cut 11, 12, 13, 15, 16, and write 17.
 meaning (write name fork offset bytes changed) = record {
@@ -370,11 +387,13 @@ meaning (write name fork offset bytes changed) = record {
   fork = fork;
   lent = [];
   fits = Bytes name × (offset < 2 ^ 64) × Bytes bytes × (changed < 2 ^ 32);
+  checks = verdict;
   refuses = λ k. orElse (k .locked) 11 (orElse (badName name) 12 (orElse (not (k .exists)) 13
       (orElse (k .fileLocked) 15 (orElse (ltb (k .logical) offset) 16
       (orElse (ltb (k .free) (needed (k .size) (grown (k .logical) offset (length bytes)) (k .blocks))) 17 0)))));
   reply = numberAlone;
   change = λ image. written (factsOf image) image name fork offset bytes changed (forkOf fork (entryNamed name image));
+  wrapped = true;
 }
 -- Cut a fork shorter.
 meaning (cut name fork size changed) = record {
@@ -382,10 +401,12 @@ meaning (cut name fork size changed) = record {
   fork = fork;
   lent = [];
   fits = Bytes name × (size < 2 ^ 64) × (changed < 2 ^ 32);
+  checks = verdict;
   refuses = λ k. orElse (k .locked) 11 (orElse (badName name) 12 (orElse (not (k .exists)) 13
       (orElse (k .fileLocked) 15 (orElse (ltb (k .logical) size) 16 0))));
   reply = numberAlone;
   change = λ image. shortened (factsOf image) image name fork size changed (forkOf fork (entryNamed name image));
+  wrapped = true;
 }
 -- Delete a file: delete 11, 12, 13, 15.
 meaning (delete name) = record {
@@ -393,9 +414,23 @@ meaning (delete name) = record {
   fork = Data;
   lent = [];
   fits = Bytes name;
+  checks = verdict;
   refuses = λ k. orElse (k .locked) 11 (orElse (badName name) 12 (orElse (not (k .exists)) 13 (orElse (k .fileLocked) 15 0)));
   reply = numberAlone;
   change = λ image. deleted (factsOf image) image name (entryNamed name image);
+  wrapped = true;
+}
+-- Wrap a bare 400K image into a lent buffer (document 02, T-02): 22, before 1. Its name is no file's.
+meaning (wrap name format buffer) = record {
+  name = [];
+  fork = Data;
+  lent = buffer;
+  fits = Bytes name × (format < 256) × Bytes buffer;
+  checks = λ image. let own = verdict image in orElse (badLengths (length image) (length buffer) (length name)) 22 own;
+  refuses = λ k. 0;
+  reply = λ image. only 0 (wrapping image name format);
+  change = unchanged;
+  wrapped = false;
 }
 
 -- ---- The calls, by the fields of what they mean
@@ -412,6 +447,9 @@ lent call = meaning call .lent
 unfoldable pub Fits : Call → Type 0
 Fits call = meaning call .fits
 
+unfoldable pub checks : Call → List ℕ → ℕ
+checks call = meaning call .checks
+
 unfoldable pub refuses : Call → Known → ℕ
 refuses call = meaning call .refuses
 
@@ -421,9 +459,12 @@ reply call = meaning call .reply
 unfoldable pub change : Call → List ℕ → List ℕ
 change call = meaning call .change
 
--- Every call runs 1 to 10. Then its own.
+unfoldable pub servesWrapped : Call → Bool
+servesWrapped call = meaning call .wrapped
+
+-- Every call runs 1 to 10. Then its own. (Wrap has 22 before 1.)
 unfoldable pub refusal : Call → List ℕ → ℕ
-refusal call image = let own = refuses call (knownIn image (nameOf call) (forkGiven call)) in firstOf (verdict image) own
+refusal call image = let own = refuses call (knownIn image (nameOf call) (forkGiven call)) in firstOf (checks call image) own
 
 -- A refusal gives its number, all other results are zero, and no lent byte changes.
 unfoldable pub answer : Call → List ℕ → Answer

@@ -1,4 +1,5 @@
--- The disk HALL, the P cases as one table under one statement, and two tables of further cases, the second on long names.
+-- The disk HALL, the P cases as one table under one statement, and three tables of further cases, the second on long names, the
+-- third on wrapped files.
 use Prim.Native.Nat.{ℕ, zero, suc, _+_, _-_, _*_, _/_, _%_}
 use mathlib.Core.Path.{_≡_}
 use mathlib.Core.Bool.{Bool, true, false}
@@ -11,8 +12,10 @@ use Rattle.model.specs.Facts.{factsOf, blocksIn, noFacts}
 use Rattle.model.specs.Map.{mapEntry, putChain}
 use Rattle.model.specs.Directory.{noEntry}
 use Rattle.model.specs.Check.{fires3, verdict}
-use Rattle.model.specs.Calls.{Call, Answer, only, tellsFacts, tellsEntry, tellsBlock, answer, after}
-use Rattle.model.specs.Calls.Call.{check, entry, find, block, read, create, write, cut, delete}
+use Rattle.model.specs.Calls.{Call, Answer, lent, refusal, reply, change, only, tellsFacts, tellsEntry, tellsBlock, answer, after}
+use Rattle.model.specs.Container.{checksum, tagChecksum, badHeader, badLengths, renewed}
+use Rattle.model.specs.Calls.Call.{check, entry, find, block, read, create, write, cut, delete, wrap}
+use Rattle.model.specs.Wrapped.{fileAnswer, fileAfter}
 use Rattle.model.specs.declared.VolumeFacts.{VolumeFacts}
 use Rattle.model.specs.declared.DirectoryEntry.{DirectoryEntry}
 use Rattle.model.specs.declared.Fork.the-variants.{Data, Resource}
@@ -125,6 +128,25 @@ pub data Row : Type 0 where
   -- every 800-block image with that volume information, so many being its allocation blocks, passes check 3, or gets 3
   passes3 : (n : ℕ) → Row
   gives3 : (n : ℕ) → Row
+  -- the checksum of bytes, and of tags
+  sums : (bytes : List ℕ) (sum : ℕ) → Row
+  tagSums : (behind : List ℕ) (sum : ℕ) → Row
+  -- a file's length and header, and whether they are unlike those of a wrapped file
+  heads : (size : ℕ) (header : List ℕ) (bad : Bool) → Row
+  -- the lengths of image, buffer and name, and whether wrapping refuses them by 22
+  lengths : (image buffer name : ℕ) (bad : Bool) → Row
+  -- every accepted image of 409,600 bytes with that checksum is wrapped by a name and a format byte into this header and the image
+  wraps : (name : List ℕ) (format sum : ℕ) (header : List ℕ) → Row
+  -- every file of that header, of 409,600 bytes of data with that checksum, and of so many bytes of tags with that tag sum: a call
+  -- on it, its whole answer, and the file stays
+  stops : (header : List ℕ) (sum long tagSum : ℕ) (call : Call) (given : Answer) → Row
+  -- every such file with data for which that call has that number: it gives the number alone, and the file stays
+  declines : (header : List ℕ) (sum long tagSum : ℕ) (call : Call) (number : ℕ) → Row
+  -- every such file with data for which that call is not refused: it answers as on the data, and leaves this header, the data that
+  -- the call leaves, of the new checksum, and the tags
+  serves : (header : List ℕ) (sum long tagSum : ℕ) (call : Call) (new : ℕ) (after : List ℕ) → Row
+  -- every file of that header, with new data of that checksum, has this header, the new data and the tags that it had
+  renews : (header : List ℕ) (sum : ℕ) (after : List ℕ) → Row
 
 unfoldable pub Right : Row → Type 0
 Right (pair ab cd ef x y) =
@@ -135,6 +157,30 @@ Right (does image call given left) = (answer call image ≡ given) × (after cal
 Right (passes3 n) =
     (image : List ℕ) → length image ≡ 409600 → part 1024 64 image ≡ info800 n → fires3 (factsOf image) (blocksIn image) ≡ false
 Right (gives3 n) = (image : List ℕ) → length image ≡ 409600 → part 1024 64 image ≡ info800 n → verdict image ≡ 3
+Right (sums bytes sum) = checksum bytes ≡ sum
+Right (tagSums behind sum) = tagChecksum behind ≡ sum
+Right (heads size header bad) = badHeader size header ≡ bad
+Right (lengths image buffer name bad) = badLengths image buffer name ≡ bad
+Right (wraps name format sum header) =
+    (image buffer : List ℕ) → length image ≡ 409600 → verdict image ≡ 0 → checksum image ≡ sum → length buffer ≡ 409684
+    → (answer (wrap name format buffer) image ≡ only 0 (header ++ image)) × (after (wrap name format buffer) image ≡ image)
+Right (stops header sum long tagSum call given) =
+    (content behind : List ℕ) → length content ≡ 409600 → checksum content ≡ sum → length behind ≡ long → tagChecksum behind ≡ tagSum
+    → (fileAnswer call (header ++ (content ++ behind)) ≡ given)
+    × (fileAfter call (header ++ (content ++ behind)) ≡ header ++ (content ++ behind))
+Right (declines header sum long tagSum call number) =
+    (content behind : List ℕ) → length content ≡ 409600 → checksum content ≡ sum → length behind ≡ long → tagChecksum behind ≡ tagSum
+    → refusal call content ≡ number
+    → (fileAnswer call (header ++ (content ++ behind)) ≡ only number (lent call))
+    × (fileAfter call (header ++ (content ++ behind)) ≡ header ++ (content ++ behind))
+Right (serves header sum long tagSum call new after) =
+    (content behind : List ℕ) → length content ≡ 409600 → checksum content ≡ sum → length behind ≡ long → tagChecksum behind ≡ tagSum
+    → refusal call content ≡ 0 → checksum (change call content) ≡ new
+    → (fileAnswer call (header ++ (content ++ behind)) ≡ reply call content)
+    × (fileAfter call (header ++ (content ++ behind)) ≡ after ++ (change call content ++ behind))
+Right (renews header sum after) =
+    (content new behind : List ℕ) → length content ≡ 409600 → length new ≡ 409600 → checksum new ≡ sum
+    → renewed (header ++ (content ++ behind)) new ≡ after ++ (new ++ behind)
 
 -- every row of the list
 infixr 5 _&_
@@ -376,5 +422,70 @@ longNames =
     ∷ refused 13 (find (longName 67 32)) (longDisk 155)
     ∷ []
 
+-- a header by its fields: the name's length, the rest of the name's field, data size, tag size, the two checksums, encoding, format
+-- byte, and what is 0100 hex
+unfoldable pub headOf : ℕ → List ℕ → ℕ → ℕ → ℕ → ℕ → ℕ → ℕ → ℕ → List ℕ
+headOf long field size tag sum tagged encoding format mark =
+    flat ((long ∷ field) ∷ bytes32 size ∷ bytes32 tag ∷ bytes32 sum ∷ bytes32 tagged ∷ (encoding ∷ format ∷ []) ∷ bytes16 mark ∷ [])
+
+-- one that is like this, and the same with another tag size and other checksums
+unfoldable pub headWith : ℕ → ℕ → ℕ → List ℕ
+headWith tag sum tagged = headOf 4 (72 ∷ 65 ∷ 76 ∷ 76 ∷ replicate 59 0xee) 409600 tag sum tagged 0 0x22 0x100
+
+-- document 02, T-02: the checksum, 22 to 24 and their order, a change, a bare image wrapped
+unfoldable pub containers : List Row
+containers =
+    -- from 0; the lowest bit becomes the highest; words are big-endian; the sum is turned each time
+    sums [] 0
+    ∷ sums (0 ∷ 1 ∷ []) 0x80000000
+    ∷ sums (1 ∷ 0 ∷ []) 0x80
+    ∷ sums (replicate 4 255) 0x4000bfff
+    -- the last word carries the sum over 32 bits
+    ∷ sums (255 ∷ 255 ∷ 255 ∷ 254 ∷ (replicate 28 255 ++ (255 ∷ 254 ∷ []))) 0x80007ffd
+    -- 0 without tags; the first 12 bytes left out
+    ∷ tagSums [] 0
+    ∷ tagSums (replicate 12 255) 0
+    ∷ tagSums (replicate 12 255 ++ (0 ∷ 1 ∷ [])) 0x80000000
+    -- no tags or all of them, and the length says so too
+    ∷ heads 409684 (headWith 0 0 0) false
+    ∷ heads 419284 (headWith 9600 0 0) false
+    ∷ heads 409684 (headWith 9600 0 0) true
+    ∷ heads 419284 (headWith 0 0 0) true
+    ∷ heads 414484 (headWith 4800 0 0) true
+    ∷ heads 409685 (headWith 0 0 0) true
+    -- a name of 0, 63 and 64; the field's rest and the format byte are carried
+    ∷ heads 409684 (headOf 0 (replicate 63 255) 409600 0 1 2 0 255 0x100) false
+    ∷ heads 409684 (headOf 63 (replicate 63 255) 409600 0 1 2 0 0 0x100) false
+    ∷ heads 409684 (headOf 64 (replicate 63 255) 409600 0 1 2 0 0 0x100) true
+    -- another data size, encoding or mark
+    ∷ heads 409684 (headOf 4 (replicate 63 0) 409599 0 0 0 0 0 0x100) true
+    ∷ heads 409684 (headOf 4 (replicate 63 0) 409600 0 0 0 1 0 0x100) true
+    ∷ heads 409684 (headOf 4 (replicate 63 0) 409600 0 0 0 0 0 0x101) true
+    ∷ heads 409684 (headOf 4 (replicate 63 0) 409600 0 0 0 0 0 0x001) true
+    -- 22, 23, 24, in that order before 1: a read's buffer and the file stay
+    ∷ stops (headOf 64 (replicate 63 0) 409600 0 8 9 0 0 0x100) 7 0 0 check (only 22 [])
+    ∷ stops (headWith 0 8 9) 7 0 0 check (only 23 [])
+    ∷ stops (headWith 0 7 9) 7 0 0 check (only 24 [])
+    ∷ stops (headWith 9600 7 9) 7 9600 8 (read WEEK1 Data 0 (replicate 3 0xee)) (only 24 (replicate 3 0xee))
+    ∷ stops (headWith 9600 8 8) 7 9600 8 (delete WEEK1) (only 23 [])
+    ∷ stops (headWith 9600 7 8) 7 0 0 (delete WEEK1) (only 22 [])
+    -- then those of the call on the data inside, and its answer; a success changes the data and renews their checksum
+    ∷ declines (headWith 9600 7 8) 7 9600 8 (delete WEEK1) 15
+    ∷ serves (headWith 9600 7 8) 7 9600 8 (delete WEEK1) 0x01020304 (headWith 9600 0x01020304 8)
+    -- header and tags stay
+    ∷ renews (headWith 9600 7 9) 0x01020304 (headWith 9600 0x01020304 9)
+    -- wrapping: an image of 409,600 bytes, a buffer of 409,684, a name of up to 63
+    ∷ lengths 409600 409684 0 false
+    ∷ lengths 409600 409684 63 false
+    ∷ lengths 409600 409684 64 true
+    ∷ lengths 409599 409684 4 true
+    ∷ lengths 409600 419284 4 true
+    -- name and format byte as given, zeros behind the name, no tags
+    ∷ wraps (72 ∷ 65 ∷ 76 ∷ 76 ∷ []) 0x22 0x01020304 (headOf 4 (72 ∷ 65 ∷ 76 ∷ 76 ∷ zeros 59) 409600 0 0x01020304 0 0 0x22 0x100)
+    ∷ wraps [] 0 0 (headOf 0 (zeros 63) 409600 0 0 0 0 0 0x100)
+    -- an image of another length: 22 before 1 to 10, and the buffer stays
+    ∷ does freeCount3 (wrap NEWS 0x22 (replicate 3 0xee)) (only 22 (replicate 3 0xee)) freeCount3
+    ∷ []
+
 unfoldable pub FurtherCases : Type 0
-FurtherCases = AllRight telling × AllRight longNames
+FurtherCases = AllRight telling × AllRight longNames × AllRight containers

@@ -4,5 +4,7 @@ pub mod Facts
 pub mod Map
 pub mod Directory
 pub mod Check
+pub mod Container
 pub mod Calls
+pub mod Wrapped
 pub mod Cases

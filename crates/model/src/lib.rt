@@ -2,6 +2,7 @@
 // volume facts read from bytes, a fork's block count; and the statements that the definitions are held to.
 ghost use Rattle.model.specs.Cases.{FurtherCases, PCases};
 ghost use Rattle.model.specs.Check.{VerdictIsAccepted};
+ghost use Rattle.model.specs.Container.{ContainerIsSound};
 
 mod block_numbers;
 mod copying;
@@ -92,4 +93,9 @@ pub fn further_cases()
 // The first check that fires is 0 exactly where the volume is accepted.
 pub fn verdict_is_accepted()
     ensures { λ _. ⌜ VerdictIsAccepted ⌝ }
+{}
+
+// None of 22 to 24 fires exactly where the container is sound.
+pub fn container_is_sound()
+    ensures { λ _. ⌜ ContainerIsSound ⌝ }
 {}

@@ -1,5 +1,5 @@
 -- Laws of `check`'s answer: how its returns meet its contract, and what the other calls take from it.
-use Prim.Native.Nat.{ℕ, zero, suc}
+use Prim.Native.Nat.{ℕ}
 use mathlib.Core.Path.{_≡_, refl, sym, ap, _∙_}
 use mathlib.Core.Bool.{true, false}
 use mathlib.Core.List.{List, []}
@@ -9,11 +9,11 @@ use lib.ListN.{length}
 use borrow.Author.Tests.{eq-eqb, ne-eqb}
 use Rattle.model.specs.Bytes.{Bytes}
 use Rattle.model.specs.Facts.{factsOf, noFacts}
-use Rattle.model.specs.Check.{firstOf, fires1, from2, verdict}
-use Rattle.model.specs.Calls.{Answer, refuses, refusal, only, tellsFacts, reply, lent, change, answer, Fits, Does}
+use Rattle.model.specs.Check.{fires1, from2, verdict}
+use Rattle.model.specs.Calls.{Answer, checks, refuses, refusal, only, tellsFacts, reply, lent, change, answer, Fits, Does}
 use Rattle.model.specs.Calls.Call.{check}
 use Rattle.model.specs.declared.VolumeFacts.{VolumeFacts}
-use Rattle.laws.proofs.Calls.{by-volume, by-own, does-refuse, does-serve}
+use Rattle.laws.proofs.Calls.{first-alone, by-checks, by-own, does-refuse, does-serve}
 use Rattle.model.proofs.Check.{verdict-accepted}
 use Rattle.files.specs.declared.CheckAnswer.{CheckAnswer}
 use Rattle.files.specs.Told.{toldCheck}
@@ -24,10 +24,10 @@ use Rattle.checks.proofs.Firing.{fires-here, passes-here}
 
 module _ (image : List ℕ) (b : Bytes image) where
   refused : (n : ℕ) (f : VolumeFacts) → f ≡ noFacts → n ≡ verdict image → (n ≡ 0 → ⊥) → Does check image (toldCheck (record { number = n; facts = f })) image
-  unfolding only lent Fits
+  unfolding only lent Fits checks
   refused n f q v z =
       let told : toldCheck (record { number = n; facts = f }) ≡ only n [] = ap (λ (g : VolumeFacts). toldCheck (record { number = n; facts = g })) q in
-      rw told (does-refuse check image n b tt (by-volume check image n v z) z)
+      rw told (does-refuse check image n b tt (by-checks check image n v z) z)
 
   -- check 1 fires
   pub does-1 : (f : VolumeFacts) → f ≡ noFacts → fires1 (length image) ≡ true → Does check image (toldCheck (record { number = 1; facts = f })) image
@@ -45,7 +45,7 @@ module _ (image : List ℕ) (b : Bytes image) where
 
     -- none does
     pub does-facts : n ≡ 0 → Does check image (toldCheck (record { number = 0; facts = g })) image
-    unfolding reply tellsFacts change refuses Fits
+    unfolding reply tellsFacts change checks refuses Fits
     does-facts z =
         let told : toldCheck (record { number = 0; facts = g }) ≡ tellsFacts (factsOf image) =
         ap (λ (k : VolumeFacts). toldCheck (record { number = 0; facts = k })) e in
@@ -53,13 +53,8 @@ module _ (image : List ℕ) (b : Bytes image) where
 
 -- ---- what its answer says
 
-first-alone : (n : ℕ) → firstOf n 0 ≡ n
-unfolding firstOf
-first-alone zero = refl
-first-alone (suc n) = refl
-
 refusal-check : (image : List ℕ) → refusal check image ≡ verdict image
-unfolding refusal refuses
+unfolding refusal checks refuses
 refusal-check image = first-alone (verdict image)
 
 module _ {image : List ℕ} (r : CheckAnswer) {left : List ℕ} (d : Does check image (toldCheck r) left) where

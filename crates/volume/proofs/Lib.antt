@@ -1,3 +1,4 @@
 pub mod Checked
 pub mod Stopped
+pub mod Wraps
 pub mod Happened

@@ -5,7 +5,7 @@ use mathlib.Core.List.{List}
 use lib.ListN.{length, take, drop}
 use Rattle.model.specs.Check.{Accepted}
 use Rattle.model.specs.Calls.{Call, Answer, lent, Does}
-use Rattle.model.specs.Calls.Call.{check, entry, find, block, read, create, write, cut, delete}
+use Rattle.model.specs.Calls.Call.{check, entry, find, block, read, create, write, cut, delete, wrap}
 use Rattle.history.specs.History.{History, Agrees, InStep}
 use Rattle.model.specs.Facts.{noFacts}
 use Rattle.model.specs.Directory.{noEntry}
@@ -17,21 +17,22 @@ use Rattle.files.specs.declared.BlockAnswer.{BlockAnswer}
 use Rattle.files.specs.declared.ReadAnswer.{ReadAnswer}
 use Rattle.volume.specs.declared.Outcome.{Outcome}
 use Rattle.volume.specs.declared.Wanted.{Wanted}
-use Rattle.volume.specs.declared.Wanted.the-variants.{Check, Entry, Find, Block, Read, Create, Write, Cut, Delete}
+use Rattle.volume.specs.declared.Wanted.the-variants.{Check, Entry, Find, Block, Read, Create, Write, Cut, Delete, Wrap}
 
 -- the call that is wanted, with what it needs of the arguments
-unfoldable pub callOf : Wanted → (name : List ℕ) → Fork → (place : ℕ) → (buffer finder bytes : List ℕ) → (created changed : ℕ) → Call
-callOf Check name fork place buffer finder bytes created changed = check
-callOf Entry name fork place buffer finder bytes created changed = entry place
-callOf Find name fork place buffer finder bytes created changed = find name
-callOf Block name fork place buffer finder bytes created changed = block name fork place
-callOf Read name fork place buffer finder bytes created changed = read name fork place buffer
-callOf Create name fork place buffer finder bytes created changed = create name finder created changed
-callOf Write name fork place buffer finder bytes created changed = write name fork place bytes changed
-callOf Cut name fork place buffer finder bytes created changed = cut name fork place changed
-callOf Delete name fork place buffer finder bytes created changed = delete name
+unfoldable pub callOf : Wanted → (name : List ℕ) → Fork → (place : ℕ) → (buffer finder bytes : List ℕ) → (created changed format : ℕ) → Call
+callOf Check name fork place buffer finder bytes created changed format = check
+callOf Entry name fork place buffer finder bytes created changed format = entry place
+callOf Find name fork place buffer finder bytes created changed format = find name
+callOf Block name fork place buffer finder bytes created changed format = block name fork place
+callOf Read name fork place buffer finder bytes created changed format = read name fork place buffer
+callOf Create name fork place buffer finder bytes created changed format = create name finder created changed
+callOf Write name fork place buffer finder bytes created changed format = write name fork place bytes changed
+callOf Cut name fork place buffer finder bytes created changed format = cut name fork place changed
+callOf Delete name fork place buffer finder bytes created changed format = delete name
+callOf Wrap name fork place buffer finder bytes created changed format = wrap name format buffer
 
--- what any call gives back, as an answer of the model's; the buffer is read's, after it
+-- what any call gives back, as an answer of the model's; the buffer is the one lent, after it
 abbrev pub toldOutcome : Outcome → List ℕ → Answer
 toldOutcome o buffer = record {
   number = o .number;

@@ -5,7 +5,14 @@ mod changing;
 mod checking;
 mod making;
 mod reading;
+mod wrapping;
 
+pub use answer_of::of_block;
+pub use answer_of::of_check;
+pub use answer_of::of_entry;
+pub use answer_of::of_find;
+pub use answer_of::of_number;
+pub use answer_of::of_read;
 pub use changing::create;
 pub use changing::cut;
 pub use changing::delete;
@@ -19,6 +26,7 @@ pub use reading::block;
 pub use reading::entry;
 pub use reading::find;
 pub use reading::read;
+pub use wrapping::wrap;
 
 // What any call gives back: what its answer does not tell is zero.
 pub struct Outcome {
@@ -41,4 +49,5 @@ pub enum Wanted {
     Write,
     Cut,
     Delete,
+    Wrap,
 }

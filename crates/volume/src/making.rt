@@ -17,6 +17,7 @@ use crate::reading::block;
 use crate::reading::entry;
 use crate::reading::find;
 use crate::reading::read;
+use crate::wrapping::wrap;
 use model::Fork;
 
 // Makes the call that is wanted with what it needs of all this, and gives back what that call gives.
@@ -31,8 +32,9 @@ pub fn make_call(
     bytes: &[u8],
     created: u32,
     changed: u32,
+    format: u8,
 ) -> Outcome
-    ensures { λ r. ⌜ Happens (callOf wanted (now (name .entry)) fork place (now (buffer .entry)) (now (finder .entry)) (now (bytes .entry)) created changed) (now (image .entry)) r (now (buffer .entry)) (now (buffer .exit)) (now (image .exit)) ⌝ }
+    ensures { λ r. ⌜ Happens (callOf wanted (now (name .entry)) fork place (now (buffer .entry)) (now (finder .entry)) (now (bytes .entry)) created changed format) (now (image .entry)) r (now (buffer .entry)) (now (buffer .exit)) (now (image .exit)) ⌝ }
 {
     match wanted {
         Wanted::Check => of_check(check(image)),
@@ -44,5 +46,6 @@ pub fn make_call(
         Wanted::Write => of_number(write(image, name, fork, place, bytes, changed)),
         Wanted::Cut => of_number(cut(image, name, fork, place, changed)),
         Wanted::Delete => of_number(delete(image, name)),
+        Wanted::Wrap => of_number(wrap(image, name, format, buffer)),
     }
 }

@@ -3,7 +3,7 @@ use mathlib.Core.Path.{refl}
 use borrow.Author.Needs.{needs}
 use Rattle.model.specs.Calls.{lent, only}
 use Rattle.volume.specs.Happens.{callOf}
-use Rattle.volume.proofs.Happened.{happens, read-happens}
+use Rattle.volume.proofs.Happened.{happens, whole-happens}
 use Rattle.volume.proofs.making.make_call.Statement.{statement}
 use Rattle.volume.proofs.making.make_call.Tie as tie
 
@@ -88,6 +88,15 @@ delete-requires c κs = search needs
 of-number-requires-4 : tie.Need-of-number-requires-4
 of-number-requires-4 c κs = search needs
 
+enum-told-10 : tie.Need-enum-told-10
+enum-told-10 c = search needs
+
+wrap-requires : tie.Need-wrap-requires
+wrap-requires c κs = search needs
+
+of-number-requires-5 : tie.Need-of-number-requires-5
+of-number-requires-5 c κs = search needs
+
 same-length : tie.Need-same-length
 same-length c = search needs
 
@@ -123,10 +132,10 @@ same-length-6 : tie.Need-same-length-6
 same-length-6 c = search needs
 
 returns-5 : tie.Need-returns-5
-unfolding callOf
+unfolding callOf lent
 returns-5 c =
     let k = c .before .before .before in
-    rw (k .before .before .before .enum-told5 .given .1, c .of-read .ensures) (read-happens (same-length-6 c) (k .read .ensures))
+    rw (k .before .before .before .enum-told5 .given .1, c .of-read .ensures) (whole-happens refl (same-length-6 c) (k .read .ensures))
 
 same-length-7 : tie.Need-same-length-7
 same-length-7 c = search needs
@@ -155,6 +164,18 @@ same-length-10 c = search needs
 returns-9 : tie.Need-returns-9
 unfolding callOf lent only
 returns-9 c = let k = c .before .before .before in rw (k .before .before .enum-told9 .given .1, c .of-number4 .ensures) (happens (k .delete .ensures) refl)
+
+same-length-11 : tie.Need-same-length-11
+same-length-11 c = search needs
+
+same-length-12 : tie.Need-same-length-12
+same-length-12 c = search needs
+
+returns-10 : tie.Need-returns-10
+unfolding callOf lent only
+returns-10 c =
+    let k = c .before .before .before in
+    rw (k .before .before .before .enum-told10 .given .1, c .of-number5 .ensures) (whole-happens refl (same-length-12 c) (k .wrap .ensures))
 
 pub make-call-spec : {M : Type 1} → statement M
 make-call-spec =
@@ -187,6 +208,9 @@ make-call-spec =
     enum-told-9
     delete-requires
     of-number-requires-4
+    enum-told-10
+    wrap-requires
+    of-number-requires-5
     same-length
     returns
     same-length-2
@@ -205,4 +229,7 @@ make-call-spec =
     same-length-9
     returns-8
     same-length-10
-    returns-9)
+    returns-9
+    same-length-11
+    same-length-12
+    returns-10)
