@@ -17,14 +17,26 @@ SECONDS = 60
 
 
 def passes(binary, given, wanted):
-    with open(given, 'rb') as stdin:
-        try:
-            run = subprocess.run([binary], stdin=stdin, capture_output=True,
-                                 timeout=SECONDS)
-        except subprocess.TimeoutExpired:
-            return False
-    with open(wanted, 'rb') as f:
-        return run.returncode == 0 and run.stdout == f.read()
+    """Whether the program prints the bytes wanted for those given."""
+    try:
+        run = subprocess.run([binary], input=given, capture_output=True,
+                             timeout=SECONDS)
+    except subprocess.TimeoutExpired:
+        return False
+    return run.returncode == 0 and run.stdout == wanted
+
+
+def contents(*path):
+    with open(os.path.join(*path), 'rb') as file:
+        return file.read()
+
+
+def tell(what, passed, failed):
+    """Prints what differs and the counts; gives the exit code."""
+    for name in failed:
+        print('differs:', name)
+    print(f'{what}: {passed} passed, {len(failed)} failed')
+    return 1 if failed else 0
 
 
 def main():
@@ -35,15 +47,12 @@ def main():
                        check=True, stdout=subprocess.DEVNULL)
         for name in sorted(f[:-3] for f in os.listdir(folder) if f.endswith('.in')):
             program = 'list' if name.startswith('list-') else 'replay'
-            if passes(os.path.join(binaries, program), os.path.join(folder, name + '.in'),
-                      os.path.join(folder, name + '.out')):
+            if passes(os.path.join(binaries, program), contents(folder, name + '.in'),
+                      contents(folder, name + '.out')):
                 passed += 1
             else:
                 failed.append(name)
-    for name in failed:
-        print('differs:', name)
-    print(f'bad inputs: {passed} passed, {len(failed)} failed')
-    return 1 if failed else 0
+    return tell('bad inputs', passed, failed)
 
 
 if __name__ == '__main__':

@@ -8,11 +8,10 @@ that differs gives a line, and the exit code is then 1.  With --counts tables
 show how often each call gives each number, how often it succeeds on names of
 each length, and what else the list must contain.  With --bad only the bad
 inputs for the programs are written, NAME.in and NAME.out side by side:
-list-... for the listing, replay-... and changes-... for replay.
+list-... for the listing, replay-..., changes-... and wrapped-... for replay.
 """
 
 import argparse
-from collections import Counter
 import os
 import random
 import sys
@@ -22,17 +21,18 @@ import hall
 import listing
 import maker
 import replay
-import volume
+import tapes
 import water
+import wrapped_runs
 
 # Which of the two lists of calls is the repository's: 'reading' or 'all'.
 CALLS = 'all'
 
-READING = 'CEFBR'
-ALL = 'CEFBRNWUD'
+READING = replay.READING
+ALL = READING + replay.CHANGING
 
-# the most bytes of stdin and stdout together
-LARGEST = {'reading': 4000000, 'all': 8000000}
+# stdin has fewer bytes than this
+LARGEST = {'reading': 4000000, 'all': 16000000}
 FEWEST_CALLS = {'reading': 2000, 'all': 6000}
 FEWEST_EACH = 10
 
@@ -41,123 +41,14 @@ CAN_GIVE = {tag: list(range(11)) + more for tag, more in {
     'C': [], 'E': [13], 'F': [12, 13], 'B': [12, 13, 16], 'R': [12, 13, 16],
     'N': [11, 12, 21, 14, 19, 18], 'W': [11, 12, 13, 15, 16, 17],
     'U': [11, 12, 13, 15, 16], 'D': [11, 12, 13, 15]}.items()}
+# on a wrapped file, whose data are always 800 blocks
+WRAPPED = ['X' + tag for tag in ALL]
+CAN_GIVE.update({'X' + tag: [n for n in CAN_GIVE[tag] if n != 1]
+                 + [22, 23, 24] for tag in ALL})
+# wrap's 2 to 10 want nine more images of 400K, too many bytes for the list:
+# damaged_headers.py runs them
+CAN_GIVE['K'] = [0, 22]
 NUMBERS = sorted(set().union(*CAN_GIVE.values()))
-
-# the lengths of names that must come up, the longest new one first
-LENGTHS = {'31': (31,), '32': (32,), '33 to 253': range(33, 254),
-           '254': (254,), '255': (255,)}
-LONG = list(LENGTHS)[1:]
-
-# what create must meet, beside each number that it can give
-CREATES = ['0, fills its block', '0, passes a block with room for less',
-           '1 to 10, long name', '11, long name', '14, name of 31',
-           '18, two bytes short', '21, next number the last', '21, no room',
-           '21, old name', '21, old name in other case']
-CREATES += ['21, %s name of %s' % (text, kind)
-            for text in ('new', 'old') for kind in LONG]
-
-
-def length_kind(name):
-    for kind, lengths in LENGTHS.items():
-        if len(name) in lengths:
-            return kind
-    return None
-
-
-def rooms(v):
-    """The bytes behind the last entry of each directory block."""
-    return [v.dir_block_end(d) - at for d, at in enumerate(v.ends)]
-
-
-def create_met(v, name, number):
-    """What a create met, as texts of CREATES; v is the volume after it."""
-    kind = length_kind(name)
-    size = volume.even(volume.ENTRY_HEAD + len(name))
-    most = max(rooms(v))
-    place = v.places.get(volume.fold(name))
-    if number == 0:
-        d = v.entries[place].dir_block
-        if rooms(v)[d] == 0:
-            yield '0, fills its block'
-        if any(room > volume.ENTRY_HEAD for room in rooms(v)[:d]):
-            yield '0, passes a block with room for less'
-    elif number == 11 and kind in LONG:
-        yield '11, long name'
-    elif number == 14 and kind == '31':
-        yield '14, name of 31'
-    elif number == 18 and most == size - 2:
-        yield '18, two bytes short'
-    elif number == 21:
-        if v.facts.next_number == volume.LAST_NUMBER:
-            yield '21, next number the last'
-        if most < size:
-            yield '21, no room'
-        if place is None:
-            yield '21, new name of ' + kind
-        else:
-            yield '21, old name of ' + kind
-            same = v.entries[place].entry.name == name
-            yield '21, old name' + ('' if same else ' in other case')
-
-
-class Tape:
-    """A list of records with the lines expected for them.  by_length counts,
-    for each kind of length, the successes of each call on such a name and,
-    under I, the accepted volumes that hold one; creates counts what create
-    met."""
-
-    def __init__(self):
-        self.records = []
-        self.machine = replay.Machine()
-        self.by_length = Counter()
-        self.creates = Counter()
-
-    def add(self, *call):
-        record = replay.record(call)
-        self.records.append(record)
-        self.machine.run(record)
-        if call[0] == 'I':
-            self.note_volume()
-        elif call[0] != 'C':
-            self.note_call(call, self.machine.lines[-1].split())
-
-    def note_volume(self):
-        try:
-            names = self.state().names
-        except volume.Refused:
-            return
-        self.by_length.update({('I', length_kind(name)) for name in names})
-
-    def note_call(self, call, words):
-        tag, number = call[0], int(words[1])
-        # a read or a write of no bytes shows little
-        idle = tag == 'R' and words[2] == '0' or tag == 'W' and not call[4]
-        if number == 0 and not idle:
-            name = bytes.fromhex(words[-2]) if tag == 'E' else call[1]
-            self.by_length[tag, length_kind(name)] += 1
-        if tag == 'N' and 1 <= number <= 10:
-            self.creates['1 to 10, long name'] += length_kind(call[1]) in LONG
-        elif tag == 'N':
-            self.creates.update(create_met(self.volume(), call[1], number))
-
-    def volume(self):
-        return volume.Volume(self.machine.image)
-
-    def state(self):
-        return chooser.state_of_volume(self.volume())
-
-    def some(self, rng, kinds, state=None):
-        """A call of each kind in this order; the arguments fit the state of
-        the image, which is read again for each call unless it is given."""
-        for kind in kinds:
-            self.add(*chooser.choose(rng, state or self.state(), kind))
-
-    def input(self):
-        return b''.join(self.records)
-
-    def output(self):
-        return self.machine.output()
-
 
 # Reading
 
@@ -347,21 +238,6 @@ def random_runs(tape, count, calls):
         tape.add('C')
 
 
-def create_new(tape, rng, length):
-    name = maker.new_name(rng, length, tape.state().names)
-    if name is not None:
-        tape.add(*chooser.creating(rng, name))
-
-
-def fill_last_block(tape, rng):
-    """Where no block has room for more than one new entry: a name that needs
-    two bytes too many, then one that needs all of them."""
-    room = max(rooms(tape.volume()))
-    if 52 <= room <= 82:
-        create_new(tape, rng, maker.length_for(rng, room + 2))
-        create_new(tape, rng, maker.length_for(rng, room))
-
-
 def full_directories(tape, count):
     """Creates until nothing fits, deletes, creates again."""
     rng = random.Random(7)
@@ -376,9 +252,9 @@ def full_directories(tape, count):
             if turn == 0 and i % 2:
                 lengths.sort(reverse=True)
             for length in lengths:
-                create_new(tape, rng, length)
-                fill_last_block(tape, rng)
-            create_new(tape, rng, maker.long_length(rng))
+                tape.create_new(rng, length)
+                tape.fill_last_block(rng)
+            tape.create_new(rng, maker.long_length(rng))
             tape.some(rng, 'EEFC')
             for name in rng.sample(tape.state().names,
                                    min(3, len(tape.state().names))):
@@ -393,14 +269,7 @@ def full_disks(tape, count):
         m = maker.rich(rng, locked=False, file_locks=0.1)
         tape.add('I', m.image())
         for turn in range(12):
-            state = tape.state()
-            name = rng.choice(state.names)
-            fork = rng.randrange(2)
-            logical, blocks = state.forks[name][fork]
-            room = (blocks + state.free) * state.block_size - logical
-            length = rng.choice((room, room + 1, room + 1, room // 2, 1))
-            tape.add('W', name, fork, logical,
-                     maker.some_bytes(rng, min(length, 6000)), turn)
+            tape.fill_fork(rng, turn)
             tape.some(rng, 'BR')
             if turn % 3 == 2:
                 tape.some(rng, 'UU')
@@ -450,7 +319,7 @@ def last_numbers(tape, count):
         for turn in range((8, 4)[i % 2]):
             name = maker.new_name(rng, rng.randint(1, 9), tape.state().names)
             tape.add('N', name, bytes(16), turn, turn)
-        create_new(tape, rng, maker.long_length(rng))
+        tape.create_new(rng, maker.long_length(rng))
         tape.some(rng, 'NNDNENC')
 
 
@@ -462,7 +331,7 @@ def locks(tape, count):
                        next_kind=('end', 'small')[i // 2 % 2],
                        styles=('some', 'short', 'full'))
         tape.add('I', m.image())
-        create_new(tape, rng, maker.long_length(rng))
+        tape.create_new(rng, maker.long_length(rng))
         tape.some(rng, 'NWUDWUDNWUDWUDWUDC')
 
 
@@ -522,7 +391,7 @@ def large_changes(tape):
 
 
 def reading_list():
-    tape = Tape()
+    tape = tapes.Tape()
     before_the_first_image(tape, READING)
     hall_reading(tape)
     folding(tape)
@@ -536,7 +405,7 @@ def reading_list():
 
 
 def all_list():
-    tape = Tape()
+    tape = tapes.Tape()
     before_the_first_image(tape, ALL)
     hall_reading(tape)
     hall_changes(tape)
@@ -555,6 +424,7 @@ def all_list():
     locks(tape, 20)
     long_names_changes(tape, 10)
     large_changes(tape)
+    wrapped_runs.runs(tape)
     return tape
 
 
@@ -568,24 +438,24 @@ def make_list(calls):
     tape = {'reading': reading_list, 'all': all_list}[calls]()
     counts = tape.machine.counts
     tags = READING if calls == 'reading' else ALL
-    for tag in tags:
+    kinds = list(tags) + (WRAPPED + ['K'] if calls == 'all' else [])
+    for tag in kinds:
         for number in CAN_GIVE[tag]:
             hold('%s gives %d' % (tag, number), counts[tag, number])
-    if set(counts) - {(t, n) for t in tags for n in CAN_GIVE[t]}:
+    if set(counts) - {(t, n) for t in kinds for n in CAN_GIVE[t]}:
         raise SystemExit('a call gives a number that it never may')
     for tag in 'I' + tags[1:]:
-        for kind in LENGTHS if tag != 'N' else ('31',):
+        for kind in tapes.LENGTHS if tag != 'N' else ('31',):
             hold('%s on a name of %s' % (tag, kind),
                  tape.by_length[tag, kind])
-    if any(tape.by_length['N', kind] for kind in LONG):
+    if any(tape.by_length['N', kind] for kind in tapes.LONG):
         raise SystemExit('create makes a long name')
-    for text in CREATES if 'N' in tags else ():
-        hold('create: ' + text, tape.creates[text])
+    for text in tapes.MUST_MEET if calls == 'all' else ():
+        hold(text, tape.met[text])
     if sum(counts.values()) < FEWEST_CALLS[calls]:
         raise SystemExit('too few calls')
-    if len(tape.input()) + len(tape.output()) > LARGEST[calls]:
-        raise SystemExit('too many bytes: %d' % (
-            len(tape.input()) + len(tape.output())))
+    if len(tape.input()) >= LARGEST[calls]:
+        raise SystemExit('too many bytes: %d' % len(tape.input()))
     return tape
 
 
@@ -598,15 +468,15 @@ def show_table(title, tags, rows, counts):
 
 def show_counts(tape, sizes):
     counts = tape.machine.counts
-    tags = [tag for tag in ALL if any(t == tag for t, _ in counts)]
-    show_table('number', tags, NUMBERS, counts)
-    print('%-10s' % 'all' + ''.join(
-        '%6d' % sum(counts[tag, number] for number in NUMBERS)
-        for tag in tags))
+    for tags in (ALL, WRAPPED + ['K']):
+        show_table('number', tags, NUMBERS, counts)
+        print('%-10s' % 'all' + ''.join(
+            '%6d' % sum(counts[tag, number] for number in NUMBERS)
+            for tag in tags))
     print('%d calls' % sum(counts.values()))
-    show_table('length', 'I' + ALL[1:], LENGTHS, tape.by_length)
-    for text in CREATES if 'N' in tags else ():
-        print('%6d create: %s' % (tape.creates[text], text))
+    show_table('length', 'I' + ALL[1:], tapes.LENGTHS, tape.by_length)
+    for text in tapes.MUST_MEET:
+        print('%6d %s' % (tape.met[text], text))
     for path, data in sizes.items():
         print('%9d %s' % (len(data), path))
 
@@ -635,53 +505,65 @@ def cut_off(tag, record):
         yield 'cut-off-%s-%s' % (tag, text), part
 
 
+SOUND = {'I': replay.image(bytes(600)), 'X': replay.wrapped(bytes(600)),
+         'E': replay.entry(0), 'F': replay.find(b'WEEK1'),
+         'B': replay.block(b'WEEK1', 0, 1), 'R': replay.read(b'WEEK1', 0, 0, 10),
+         'N': replay.create(b'NEW', bytes(16), 1, 2),
+         'W': replay.write(b'WEEK1', 0, 0, b'0123456789', 3),
+         'U': replay.cut(b'WEEK1', 0, 0, 4), 'D': replay.delete(b'WEEK1'),
+         'K': replay.wrap(b'HALL', 0, 1000)}
+
+
+def long_names(name):
+    """A record with this name for each call that takes one."""
+    return {'replay-': {'F': replay.find(name), 'B': replay.block(name, 0, 0),
+                        'R': replay.read(name, 0, 0, 5)},
+            'changes-': {'N': replay.create(name, bytes(16), 1, 2),
+                         'W': replay.write(name, 0, 0, b'new', 3),
+                         'U': replay.cut(name, 0, 0, 4),
+                         'D': replay.delete(name)},
+            'wrapped-': {'K': replay.wrap(name, 0, 1000)}}
+
+
+def at_the_room():
+    """Records that fill the room of their field, and too long ones."""
+    for text, more in (('room', 0), ('too-long', 1)):
+        yield 'replay-image-' + text, replay.image(bytes(419328 + more))
+        yield 'wrapped-file-' + text, replay.wrapped(bytes(419328 + more))
+        yield 'wrapped-buffer-' + text, replay.wrap(b'HALL', 1, 419328 + more)
+        yield 'replay-read-' + text, replay.read(b'WEEK1', 0, 0, 65535 + more)
+        yield 'changes-write-' + text, replay.write(b'WEEK1', 0, 0,
+                                                    bytes(65535 + more), 3)
+        for family, records in long_names(b'N' * (1024 + more)).items():
+            for tag, record in records.items():
+                yield '%sname-%s-%s' % (family, tag, text), record
+
+
 def bad_for_replay(rng):
     """Inputs for replay by name.  Those whose name starts with changes- hold
-    records of the calls that change the image."""
+    records of the calls that change the image, those with wrapped- records of
+    wrapped files."""
     start = replay.image(hall.hall()) + replay.check()
     inputs = {'replay-empty': b'',
-              'replay-unknown-tag': start + b'X' + replay.check(),
+              'replay-unknown-tag': start + b'Z' + replay.check(),
               'replay-unknown-tag-small': start + b'c',
               'replay-unknown-tag-zero': b'\0',
               'replay-line-feed': start + b'\n',
               'replay-no-image': replay.check() + replay.find(b'A'),
-              'replay-random': b'\xD2' + maker.some_bytes(rng, 5000)}
-    for family, tags in (('replay-', 'IEFBR'), ('changes-', 'NWUD')):
+              'replay-random': b'\xD2' + maker.some_bytes(rng, 5000),
+              'wrapped-no-image': SOUND['K'] + replay.wrap(b'', 1, 409684),
+              'wrapped-unknown-tag-small': start + b'x',
+              'wrapped-hall': replay.wrapped(hall.hall()) + SOUND['E'] + start,
+              'wrapped-only-length': start + b'X' + replay.u32(419329),
+              'wrapped-largest-length': start + b'X' + b'\xFF' * 4,
+              'wrapped-largest-buffer': start + SOUND['K'][:-4] + b'\xFF' * 4}
+    for family, tags in (('replay-', 'IEFBR'), ('changes-', 'NWUD'),
+                         ('wrapped-', 'XK')):
         for tag in tags:
-            record = {
-                'I': replay.image(bytes(600)),
-                'E': replay.entry(0),
-                'F': replay.find(b'WEEK1'),
-                'B': replay.block(b'WEEK1', 0, 1),
-                'R': replay.read(b'WEEK1', 0, 0, 10),
-                'N': replay.create(b'NEW', bytes(16), 1, 2),
-                'W': replay.write(b'WEEK1', 0, 0, b'0123456789', 3),
-                'U': replay.cut(b'WEEK1', 0, 0, 4),
-                'D': replay.delete(b'WEEK1')}[tag]
-            for text, part in cut_off(tag, record):
+            for text, part in cut_off(tag, SOUND[tag]):
                 inputs[family + text] = start + part
-    for size, text in ((419328, 'room'), (419329, 'too-long')):
-        inputs['replay-image-' + text] = (
-            start + replay.image(bytes(size)) + replay.check())
-    for size, text in ((1024, 'room'), (1025, 'too-long')):
-        name = b'N' * size
-        for family, records in (
-                ('replay-', {'F': replay.find(name),
-                             'B': replay.block(name, 0, 0),
-                             'R': replay.read(name, 0, 0, 5)}),
-                ('changes-', {'N': replay.create(name, bytes(16), 1, 2),
-                              'W': replay.write(name, 0, 0, b'new', 3),
-                              'U': replay.cut(name, 0, 0, 4),
-                              'D': replay.delete(name)})):
-            for tag, record in records.items():
-                inputs['%sname-%s-%s' % (family, tag, text)] = (
-                    start + record + replay.check())
-    for size, text in ((65535, 'room'), (65536, 'too-long')):
-        inputs['replay-read-' + text] = (
-            start + replay.read(b'WEEK1', 0, 0, size) + replay.check())
-        inputs['changes-write-' + text] = (
-            start + replay.write(b'WEEK1', 0, 0, bytes(size), 3)
-            + replay.check())
+    for text, record in at_the_room():
+        inputs[text] = start + record + replay.check()
     return inputs
 
 

@@ -248,10 +248,15 @@ def lengths_in_block(rng, style):
 
 
 def base_bytes(rng, size, kind):
-    """What lies under the fields: zeros, random bytes, or a pattern that
-    repeats (with an odd length, so that no two blocks look alike)."""
+    """What lies under the fields: zeros, random bytes, a pattern that repeats
+    (with an odd length, so that no two blocks look alike), or zeros and here
+    and there a block of random bytes."""
     if kind == 'zero':
         return bytearray(size)
+    if kind == 'sparse':
+        return bytearray(b''.join(
+            some_bytes(rng, 512) if rng.random() < 0.05 else bytes(512)
+            for _ in range(size // 512)))
     if kind == 'random':
         return bytearray(some_bytes(rng, size))
     pattern = some_bytes(rng, 1021)
@@ -275,7 +280,7 @@ def make(rng, limit=24, per=None, n=None, dir_start=None, dir_length=None,
     locked    whether the volume is locked
     file_locks chance of a locked file
     next_kind next file number: small, any, near the end, or at the end
-    base      what lies under the fields: zero, random or pattern
+    base      what lies under the fields: zero, random, pattern or sparse
     first     block counts of the first forks that are filled
     names     the files' names, in the place of names by chance
     """
@@ -458,18 +463,19 @@ def smallest(rng):
     return make(rng, limit=8, per=1, tight=True)
 
 
-def disk_400k(rng):
+def disk_400k(rng, **want):
     """800 blocks, S = 16, A = 1,024, N = 391, which ends at the backup."""
-    return make(rng, limit=800, per=2, n=391, dir_start=4, dir_length=12,
-                s=16, size=800, locked=False, next_kind='small', base='pattern',
-                file_locks=0.1, styles=('some', 'full', 'nearly'))
+    usual = {'limit': 800, 'per': 2, 'n': 391, 'dir_start': 4,
+             'dir_length': 12, 's': 16, 'size': 800, 'locked': False,
+             'next_kind': 'small', 'base': 'pattern', 'file_locks': 0.1,
+             'styles': ('some', 'full', 'nearly')}
+    return make(rng, **{**usual, **want})
 
 
-def disk_400k_of_640(rng):
+def disk_400k_of_640(rng, **want):
     """800 blocks, A = 512, N = 640."""
-    return make(rng, limit=800, per=1, n=640, dir_start=5, dir_length=12,
-                s=20, size=800, locked=False, next_kind='any', base='pattern',
-                file_locks=0.1, styles=('some', 'full', 'nearly'))
+    return disk_400k(rng, **{'per': 1, 'n': 640, 'dir_start': 5, 's': 20,
+                             'next_kind': 'any', **want})
 
 
 def most_blocks(rng, n=640):
@@ -1059,6 +1065,18 @@ def damaged(rng, kind):
     _, _, shape, change = kind
     m = shape(rng)
     change(rng, m)
+    return m
+
+
+# the kinds of damage that a disk with many files can have
+ON_A_DISK = [kind for kind in DAMAGES
+             if kind[0] > 1 and kind[2] in (rich, little)]
+
+
+def damaged_400k(rng, kind, **want):
+    """A disk of 400K with one kind of damage from ON_A_DISK."""
+    m = disk_400k(rng, first=(2, 3), **want)
+    kind[3](rng, m)
     return m
 
 

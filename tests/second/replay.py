@@ -1,16 +1,22 @@
 """The replay program's records and lines, both ways.
 
 The functions image(), check(), ... build one record each.  A Machine carries
-records out by volume.py and keeps the lines that are expected for them.
+records out by volume.py and diskcopy.py and keeps the lines that are expected
+for them.
 """
 
 from collections import Counter
 import struct
 import sys
 
+import diskcopy
 import volume
 
-IMAGE_ROOM = 419328
+# the letters of the calls that change nothing and of those that change
+READING = 'CEFBR'
+CHANGING = 'NWUD'
+
+IMAGE_ROOM = 419328             # also for the buffer of K
 WRITE_ROOM = 65535
 READ_ROOM = 65535
 NAME_ROOM = 1024
@@ -40,6 +46,10 @@ def bytes_field(data):
 
 def image(data):
     return b'I' + bytes_field(data)
+
+
+def wrapped(data):
+    return b'X' + bytes_field(data)
 
 
 def check():
@@ -81,8 +91,13 @@ def delete(name):
     return b'D' + name_field(name)
 
 
-RECORDS = {'I': image, 'C': check, 'E': entry, 'F': find, 'B': block,
-           'R': read, 'N': create, 'W': write, 'U': cut, 'D': delete}
+def wrap(name, format_byte, length):
+    return b'K' + name_field(name) + bytes([format_byte]) + u32(length)
+
+
+RECORDS = {'I': image, 'X': wrapped, 'C': check, 'E': entry, 'F': find,
+           'B': block, 'R': read, 'N': create, 'W': write, 'U': cut,
+           'D': delete, 'K': wrap}
 
 
 def record(call):
@@ -181,18 +196,27 @@ class Fields:
 
 
 class Machine:
-    """Holds the image from record to record, the lines so far, and how often
-    each call gave each number."""
+    """Holds the image from record to record and whether it is a wrapped file,
+    the lines so far, and how often each call gave each number; a call on a
+    wrapped file is counted with an X before its letter."""
 
     def __init__(self):
         self.image = bytearray()
+        self.wrapped = False
         self.lines = []
         self.counts = Counter()
         self.image_sum = 0
 
+    def serve(self, call, *arguments):
+        """A call of volume.py on the image or on the data inside."""
+        if self.wrapped:
+            return diskcopy.serve(call, self.image, *arguments)
+        return call(self.image, *arguments)
+
     def line(self, tag, number, *texts):
-        self.counts[tag, number] += 1
-        if tag in 'NWUD' and number == 0:
+        self.counts[('X' if self.wrapped and tag != 'K' else '') + tag,
+                    number] += 1
+        if tag in CHANGING and number == 0:
             self.image_sum = total(self.image)
         words = [tag, str(number), *texts, str(self.image_sum)]
         self.lines.append(' '.join(words) + '\n')
@@ -214,56 +238,69 @@ class Machine:
 
     def one(self, fields):
         tag = chr(fields.number(1))
-        if tag == 'I':
+        if tag in 'IX':
             self.image = bytearray(fields.bytes(IMAGE_ROOM))
+            self.wrapped = tag == 'X'
             self.image_sum = total(self.image)
-        elif tag == 'C':
-            number, facts = volume.check(self.image)
-            self.line('C', number, *[facts_text(facts)] * (number == 0))
-        elif tag == 'E':
-            place = fields.number(8)
-            number, found = volume.entry(self.image, place)
-            self.line('E', number, *[entry_text(found)] * (number == 0))
-        elif tag == 'F':
-            name = fields.name()
-            number, place, found = volume.find(self.image, name)
-            if number:
-                self.line('F', number)
-            else:
-                self.line('F', 0, str(place), entry_text(found))
-        elif tag == 'B':
-            name, fork = fields.name(), fields.fork()
-            place = fields.number(8)
-            number, b = volume.block(self.image, name, fork, place)
-            self.line('B', number, *[str(b)] * (number == 0))
-        elif tag == 'R':
-            name, fork = fields.name(), fields.fork()
-            offset = fields.number(8)
-            buffer = bytearray(b'\xEE' * fields.long(4, READ_ROOM))
-            number, count = volume.read(self.image, name, fork, offset, buffer)
-            self.line('R', number, str(count), str(total(buffer)))
-        elif tag == 'N':
-            name, finder = fields.name(), fields.take(16)
-            created, changed = fields.number(4), fields.number(4)
-            self.line('N', volume.create(self.image, name, finder, created,
-                                         changed))
-        elif tag == 'W':
-            name, fork = fields.name(), fields.fork()
-            offset = fields.number(8)
-            data = fields.bytes(WRITE_ROOM)
-            changed = fields.number(4)
-            self.line('W', volume.write(self.image, name, fork, offset, data,
-                                        changed))
-        elif tag == 'U':
-            name, fork = fields.name(), fields.fork()
-            length = fields.number(8)
-            changed = fields.number(4)
-            self.line('U', volume.cut(self.image, name, fork, length, changed))
-        elif tag == 'D':
-            name = fields.name()
-            self.line('D', volume.delete(self.image, name))
+        elif tag in READING:
+            self.ask(tag, fields)
+        elif tag in CHANGING:
+            self.change(tag, fields)
+        elif tag == 'K':
+            self.wrap(fields)
         else:
             raise BadRecord
+
+    def ask(self, tag, fields):
+        if tag == 'C':
+            number, facts = self.serve(volume.check)
+            self.line('C', number, *[facts_text(facts)] * (number == 0))
+            return
+        if tag == 'E':
+            place = fields.number(8)
+            number, found = self.serve(volume.entry, place)
+            self.line('E', number, *[entry_text(found)] * (number == 0))
+            return
+        name = fields.name()
+        if tag == 'F':
+            number, place, found = self.serve(volume.find, name)
+            texts = [str(place), entry_text(found)] * (number == 0)
+            self.line('F', number, *texts)
+            return
+        fork, at = fields.fork(), fields.number(8)
+        if tag == 'B':
+            number, b = self.serve(volume.block, name, fork, at)
+            self.line('B', number, *[str(b)] * (number == 0))
+        else:
+            buffer = bytearray(b'\xEE' * fields.long(4, READ_ROOM))
+            number, count = self.serve(volume.read, name, fork, at, buffer)
+            self.line('R', number, str(count), str(total(buffer)))
+
+    def change(self, tag, fields):
+        name = fields.name()
+        if tag == 'N':
+            finder = fields.take(16)
+            created, changed = fields.number(4), fields.number(4)
+            number = self.serve(volume.create, name, finder, created, changed)
+        elif tag == 'D':
+            number = self.serve(volume.delete, name)
+        else:
+            fork, at = fields.fork(), fields.number(8)
+            if tag == 'W':
+                data = fields.bytes(WRITE_ROOM)
+                changed = fields.number(4)
+                number = self.serve(volume.write, name, fork, at, data,
+                                    changed)
+            else:
+                changed = fields.number(4)
+                number = self.serve(volume.cut, name, fork, at, changed)
+        self.line(tag, number)
+
+    def wrap(self, fields):
+        name, format_byte = fields.name(), fields.number(1)
+        buffer = bytearray(b'\xEE' * fields.long(4, IMAGE_ROOM))
+        number = diskcopy.wrap(self.image, name, format_byte, buffer)
+        self.line('K', number, str(total(buffer)))
 
     def output(self):
         return ''.join(self.lines).encode('ascii')

@@ -3,8 +3,8 @@
 Random runs of all nine calls start from made volumes.  After every call the
 image must be accepted, must read as a plain history says, and must equal,
 byte for byte, what the maker's writer gives for the same change made in plain
-lists.  Names at the edges of 12, 21 and 14 and old long names run so too, and
-the cases P1 to P12.
+lists.  Names at the edges of 12, 21 and 14 and old long names run so too, disks
+inside wrapped files, and the cases P1 to P12.
 """
 
 import random
@@ -13,12 +13,14 @@ import time
 import unittest
 
 import chooser
+import diskcopy
 import generate
 import hall
 import listing
 import maker
 import replay
 import volume
+import wrapper
 
 SEED = 19840124
 RUNS = 220
@@ -193,16 +195,22 @@ class Twin:
         self.m.tie(fork)
 
 
-def carry_out(image, call):
+def bare(call, image, *arguments):
+    """A call of volume.py on a bare image, as diskcopy.serve on a file."""
+    return call(image, *arguments)
+
+
+def carry_out(image, call, serve=bare):
     """Runs a call; gives its number and its other results."""
     tag, args = call[0], call[1:]
     if tag == 'R':
         buffer = bytearray(b'\xEE' * args[3])
-        number, count = volume.read(image, *args[:3], buffer)
+        number, count = serve(volume.read, image, *args[:3], buffer)
         return number, (count, bytes(buffer))
-    result = {'C': volume.check, 'E': volume.entry, 'F': volume.find,
-              'B': volume.block, 'N': volume.create, 'W': volume.write,
-              'U': volume.cut, 'D': volume.delete}[tag](image, *args)
+    function = {'C': volume.check, 'E': volume.entry, 'F': volume.find,
+                'B': volume.block, 'N': volume.create, 'W': volume.write,
+                'U': volume.cut, 'D': volume.delete}[tag]
+    result = serve(function, image, *args)
     if tag in 'NWUD':
         return result, ()
     return result[0], result[1:]
@@ -255,35 +263,46 @@ def compare(image, history, m):
     same(facts.free + fork_blocks, facts.blocks, 'free and used blocks')
 
 
+def refused_results(call):
+    """What a refused call gives beside its number."""
+    return (0, b'\xEE' * call[4]) if call[0] == 'R' else ZEROS[call[0]]
+
+
 class Run:
     """An image, its history and the plain lists, held to each other at every
     call."""
 
+    serve = staticmethod(bare)
+
     def __init__(self, m):
         self.m = m
-        self.image = m.image()
+        self.image = self.written()
         self.history, self.twin = History(m), Twin(m)
-        compare(self.image, self.history, m)
+        compare(self.inside(), self.history, m)
+
+    def written(self):
+        """What the maker writes for the plain lists."""
+        return self.m.image()
+
+    def inside(self):
+        return self.image
 
     def call(self, *call):
         """Makes a call and gives its number."""
         image, m, history, twin = self.image, self.m, self.history, self.twin
         before = bytes(image)
         no_room = call[0] == 'N' and twin.no_room(call[1])
-        number, results = carry_out(image, call)
+        number, results = carry_out(image, call, self.serve)
         want = history.step(call, no_room)
         same(number, want, call)
         if number:
             same(bytes(image), before, 'a refused call changed the image')
-            if call[0] == 'R':
-                same(results, (0, b'\xEE' * call[4]), 'refused read')
-            else:
-                same(results, ZEROS[call[0]], 'refused call')
+            same(results, refused_results(call), 'refused call')
             return number
         if call[0] in 'NWUD':
             twin.change(call)
-            same(bytes(image) == bytes(m.image()), True, call)
-            compare(image, history, m)
+            same(bytes(image) == bytes(self.written()), True, call)
+            compare(self.inside(), history, m)
             return 0
         same(bytes(image), before, 'a reading call changed the image')
         if call[0] == 'R':
@@ -305,8 +324,23 @@ class Run:
         return self.call('N', name, b'Finder bytes: 16', 3, 4)
 
 
-def one_run(rng, m, calls, seen):
-    run = Run(m)
+class WrappedRun(Run):
+    """The same inside a wrapped file."""
+
+    serve = staticmethod(diskcopy.serve)
+
+    def __init__(self, m, around):
+        self.around = around
+        super().__init__(m)
+
+    def written(self):
+        return self.around.file(self.m.image())
+
+    def inside(self):
+        return diskcopy.inside(self.image)
+
+
+def one_run(rng, run, calls, seen):
     for _ in range(calls):
         call = chooser.choose(rng, run.history.state(), KINDS)
         number = run.call(*call)
@@ -324,13 +358,14 @@ class Runs(unittest.TestCase):
                                {'styles': ('full', 'nearly', 'short')},
                                {'next_kind': 'near'}, {'file_locks': 0.6}))
             limit = rng.choice((8, 9, 12, 16, 16, 24, 24, 40))
-            one_run(rng, maker.make(rng, limit=limit, **want), CALLS, seen)
+            m = maker.make(rng, limit=limit, **want)
+            one_run(rng, Run(m), CALLS, seen)
         for _ in range(10):
-            one_run(rng, maker.long_names(rng), CALLS, seen)
-        one_run(rng, maker.disk_400k(rng), 20, seen)
-        one_run(rng, maker.most_blocks(rng), 40, seen)
-        one_run(rng, maker.largest_blocks(rng), 40, seen)
-        one_run(rng, maker.longest_directory(rng), 10, seen)
+            one_run(rng, Run(maker.long_names(rng)), CALLS, seen)
+        one_run(rng, Run(maker.disk_400k(rng)), 20, seen)
+        one_run(rng, Run(maker.most_blocks(rng)), 40, seen)
+        one_run(rng, Run(maker.largest_blocks(rng)), 40, seen)
+        one_run(rng, Run(maker.longest_directory(rng)), 10, seen)
         wanted = {'C': [0], 'E': [0, 13], 'F': [0, 12, 13],
                   'B': [0, 12, 13, 16], 'R': [0, 12, 13, 16],
                   'N': [0, 11, 12, 21, 14, 19, 18],
@@ -542,6 +577,198 @@ class Names(unittest.TestCase):
             self.assertEqual(run.call('U', name, 1, 0, 7), 15)
             self.assertEqual(run.call('D', name), 15)
             self.assertEqual(run.create(name), 14 if len(name) == 31 else 21)
+
+
+def words(text):
+    return bytes.fromhex(text)
+
+
+def plain_sum(data):
+    """Document 02's sentence, bit by bit: the sum as 32 digits, of which the
+    last goes to the front."""
+    s = 0
+    for at in range(0, len(data), 2):
+        s = (s + 256 * data[at] + data[at + 1]) % 4294967296
+        digits = '{:032b}'.format(s)
+        s = int(digits[-1] + digits[:-1], 2)
+    return s
+
+
+def header_number(at, value):
+    """What a sound file gives with another value at a byte of its header."""
+    if at == 0:
+        return 22 if value > 63 else 0
+    for end, number in ((64, 0), (72, 22), (76, 23), (80, 24), (81, 22),
+                        (82, 0), (84, 22)):
+        if at < end:
+            return number
+
+
+class Wrapped(unittest.TestCase):
+    """The checksum, the header, the refusals and wrap, and runs of the nine
+    calls inside a wrapped file."""
+
+    def setUp(self):
+        self.rng = random.Random(SEED + 8)
+        self.m = maker.disk_400k(self.rng, base='sparse', file_locks=0)
+        self.files = [
+            wrapper.Wrapper(self.rng, tags=tags).file(self.m.image())
+            for tags in (False, True)]
+
+    def gives(self, file, want, tags='CEFBRNWUD'):
+        """Each of these calls gives this number and, refused, nothing else."""
+        before = bytes(file)
+        state = chooser.state_of_made(self.m)
+        for tag in tags:
+            call = chooser.choose(self.rng, state, tag)
+            number, results = carry_out(file, call, diskcopy.serve)
+            self.assertEqual(number, want)
+            self.assertEqual(results, refused_results(call))
+            self.assertEqual(bytes(file), before)
+
+    def test_checksum(self):
+        """Worked by hand.  1 turns to the top bit; 16 words 0001 fill the
+        upper half with ones, FFFF the lower, and then the sum wraps."""
+        for text, want in (
+                ('', 0), ('0000', 0), ('0001', 0x80000000), ('0002', 1),
+                ('0100', 0x80), ('FFFF', 0x80007FFF),
+                ('0001 0000', 0x40000000), ('0000 0001', 0x80000000),
+                ('0001 0001', 0xC0000000), ('0002 0001', 1),
+                ('FFFF FFFF', 0x4000BFFF),
+                ('0001' * 16, 0xFFFF0000), ('0001' * 16 + 'FFFF', 0xFFFFFFFF),
+                ('0001' * 16 + 'FFFF 0001', 0),
+                ('0001' * 16 + 'FFFF 0002', 0x80000000),
+                ('0001' * 16 + 'FFFF FFFF', 0x7FFF),
+                ('0002' + '0000' * 31, 2), ('0002' + '0000' * 32, 1)):
+            self.assertEqual(diskcopy.checksum(words(text)), want, text)
+            self.assertEqual(plain_sum(words(text)), want, text)
+
+    def test_checksum_of_disks(self):
+        for base in ('zero', 'sparse', 'pattern', 'random'):
+            data = bytes(maker.base_bytes(self.rng, 50 * 512, base))
+            self.assertEqual(diskcopy.checksum(data), plain_sum(data), base)
+        for file in self.files:
+            data, tags = bytes(file[84:409684]), bytes(file[409684 + 12:])
+            self.assertEqual(diskcopy.checksum(data), plain_sum(data))
+            self.assertEqual(diskcopy.checksum(tags), plain_sum(tags))
+
+    def test_sound(self):
+        for file in self.files:
+            self.assertEqual(diskcopy.refusal(file), 0)
+            self.assertEqual(diskcopy.serve(volume.check, file),
+                             volume.check(self.m.image()))
+
+    def test_header(self):
+        for file in self.files:
+            for at in range(84):
+                old = file[at]
+                for value in {0, 1, 63, 64, 255, old ^ 1, old ^ 128} - {old}:
+                    file[at] = value
+                    self.assertEqual(diskcopy.refusal(file),
+                                     header_number(at, value), (at, value))
+                file[at] = old
+
+    def test_length(self):
+        for file in self.files:
+            for length in (0, 1, 83, 84, 85, 409600, len(file) - 1):
+                self.gives(file[:length], 22)
+            self.gives(file + b'\0', 22)
+            self.gives(file + bytes(9600), 22)
+        # each with the tag size and, where it tells, the tags of the other
+        without, tagged = self.files
+        self.gives(wrapper.off(without[:], 68, 9600), 22)
+        tagged[68:72] = tagged[76:80] = bytes(4)
+        self.gives(tagged, 22)
+        self.gives(tagged[:409684], 0, '')
+
+    def test_sums(self):
+        for file in self.files:
+            for at in (84, 84 + 1024, 409683):
+                self.gives(wrapper.off(file[:], at, 1, 1), 23)
+            for by in (1, -1, 1 << 16, 1 << 31):
+                self.gives(wrapper.off(file[:], 72, by), 23)
+                self.gives(wrapper.off(file[:], 76, by), 24)
+        file = self.files[1]
+        for at in range(12):
+            self.assertEqual(
+                diskcopy.refusal(wrapper.off(file[:], 409684 + at, 1, 1)), 0)
+        for at in (12, 13, 14, 5000, 9598, 9599):
+            self.gives(wrapper.off(file[:], 409684 + at, 1, 1), 24)
+
+    def test_order(self):
+        for file in self.files:
+            wrapper.off(file, 84 + 1024, 1, 1)          # the signature
+            self.gives(file, 23)
+            file[72:76] = plain_sum(file[84:409684]).to_bytes(4, 'big')
+            self.gives(file, 2)
+            wrapper.off(file, 76)
+            self.gives(file, 24)
+            wrapper.off(file, 72)
+            self.gives(file, 23)
+            wrapper.off(file, 82, 1, 2)
+            self.gives(file, 22)
+
+    def test_damage(self):
+        """Each kind of damage inside gives its own number, and so does wrap
+        on the bare disk."""
+        for kind in maker.ON_A_DISK:
+            self.m = maker.damaged_400k(self.rng, kind, base='sparse')
+            image = self.m.image()
+            file = wrapper.Wrapper(self.rng, tags=kind[0] % 2).file(image)
+            self.gives(file, kind[0])
+            self.wrap_gives(image, b'A disk', 409684, kind[0])
+
+    def wrap_gives(self, image, name, length, want):
+        """A refused wrap leaves image and buffer as they were."""
+        before, buffer = bytes(image), bytearray(b'\xEE' * length)
+        self.assertEqual(diskcopy.wrap(image, name, 1, buffer), want)
+        self.assertEqual(bytes(image), before)
+        self.assertEqual(bytes(buffer), b'\xEE' * length)
+
+    def test_wrap(self):
+        image = self.m.image()
+        stored = plain_sum(image).to_bytes(4, 'big')
+        for length in (0, 1, 4, 62, 63):
+            for format_byte in (0, 1, 2, 0x22, 255):
+                name = maker.some_bytes(self.rng, length)
+                buffer = bytearray(b'\xEE' * 409684)
+                self.assertEqual(
+                    diskcopy.wrap(image, name, format_byte, buffer), 0)
+                self.assertEqual(buffer, bytes([length]) + name
+                                 + bytes(63 - length) + words('00064000')
+                                 + bytes(4) + stored + bytes(5)
+                                 + bytes([format_byte, 1, 0]) + image)
+                self.assertEqual(diskcopy.refusal(buffer), 0)
+
+    def test_wrap_refused(self):
+        image = self.m.image()
+        for length in (64, 65, 255, 256, 319, 1024):
+            self.wrap_gives(image, b'N' * length, 409684, 22)
+        for length in (0, 84, 409600, 409683, 409685, 419284):
+            self.wrap_gives(image, b'NAME', length, 22)
+        for length in (0, 512, 6144, 409088, 409599, 409601, 409684, 410112):
+            other = (image + bytes(1000))[:length]
+            self.wrap_gives(other, b'NAME', 409684, 22)
+        # 22 is before 1 to 10
+        image[1024] ^= 1
+        self.wrap_gives(image, b'N' * 64, 409684, 22)
+        self.wrap_gives(image, b'N' * 63, 409685, 22)
+        self.wrap_gives(image, b'N' * 63, 409684, 2)
+
+    def test_runs(self):
+        seen = {}
+        for want in ({}, {'per': 1, 'n': 640, 's': 20}, {'full_disk': True},
+                     {'dir_length': 1, 'next_kind': 'near'},
+                     {'per': 64, 'n': 12, 's': 20}, {'locked': True}):
+            for tags in (False, True):
+                m = maker.disk_400k(self.rng, **{
+                    'dir_length': 2, 'base': 'sparse', **want})
+                around = wrapper.Wrapper(self.rng, tags=tags)
+                one_run(self.rng, WrappedRun(m, around), 2 * CALLS, seen)
+        for tag, number in (('N', 0), ('W', 0), ('U', 0), ('D', 0), ('N', 11),
+                            ('W', 11), ('W', 15), ('W', 16), ('W', 17)):
+            self.assertGreaterEqual(seen.get((tag, number), 0), 3,
+                                    (tag, number))
 
 
 def load_tests(loader, tests, pattern):

@@ -1,8 +1,12 @@
 // The records of the calls that change nothing: each reads its fields, makes the call and prints its line. False ends the run.
 ghost use mathlib.Core.Path.{_≡_};
 ghost use lib.ListN.{length};
+use crate::Form;
+use crate::MOST;
+use crate::forms;
 use model::Fork;
 use replay_records::input;
+use replay_records::input::ByteField;
 use replay_records::input::Field;
 use replay_records::input::PlaceField;
 use replay_records::line;
@@ -17,8 +21,8 @@ fn unread() -> [u8; MOST_READ]
     [0xee; MOST_READ]
 }
 
-pub fn check(image: &[u8]) -> bool {
-    let answer = volume::check(image);
+pub fn check(form: Form, image: &[u8]) -> bool {
+    let answer = forms::check(form, image);
     let mut line = text::empty();
     let mut at = line::start(&mut line, b'C', answer.number);
     if answer.number == 0 {
@@ -28,11 +32,11 @@ pub fn check(image: &[u8]) -> bool {
     true
 }
 
-pub fn entry(image: &[u8]) -> bool {
+pub fn entry(form: Form, image: &[u8]) -> bool {
     let Field::Is(place) = input::number64() else {
         return false;
     };
-    let answer = volume::entry(image, place);
+    let answer = forms::entry(form, image, place);
     let mut line = text::empty();
     let mut at = line::start(&mut line, b'E', answer.number);
     if answer.number == 0 {
@@ -42,12 +46,12 @@ pub fn entry(image: &[u8]) -> bool {
     true
 }
 
-pub fn find(image: &[u8]) -> bool {
+pub fn find(form: Form, image: &[u8]) -> bool {
     let mut name = input::name_space();
     let Field::Is(length) = input::name(&mut name) else {
         return false;
     };
-    let answer = volume::find(image, text::first(&name, length as usize));
+    let answer = forms::find(form, image, text::first(&name, length as usize));
     let mut line = text::empty();
     let mut at = line::start(&mut line, b'F', answer.number);
     if answer.number == 0 {
@@ -58,12 +62,18 @@ pub fn find(image: &[u8]) -> bool {
     true
 }
 
-pub fn block(image: &[u8]) -> bool {
+pub fn block(form: Form, image: &[u8]) -> bool {
     let mut name = input::name_space();
     let PlaceField::Is(length, fork, place) = input::place_in_fork(&mut name) else {
         return false;
     };
-    let answer = volume::block(image, text::first(&name, length as usize), fork, place);
+    let answer = forms::block(
+        form,
+        image,
+        text::first(&name, length as usize),
+        fork,
+        place,
+    );
     let mut line = text::empty();
     let mut at = line::start(&mut line, b'B', answer.number);
     if answer.number == 0 {
@@ -74,8 +84,8 @@ pub fn block(image: &[u8]) -> bool {
 }
 
 // Reads into the buffer, and prints the line.
-fn read_into(image: &[u8], name: &[u8], fork: Fork, offset: u64, buffer: &mut [u8]) {
-    let answer = volume::read(image, name, fork, offset, buffer);
+fn read_into(form: Form, image: &[u8], name: &[u8], fork: Fork, offset: u64, buffer: &mut [u8]) {
+    let answer = forms::read(form, image, name, fork, offset, buffer);
     let mut line = text::empty();
     let mut at = line::start(&mut line, b'R', answer.number);
     at = line::put_number(&mut line, at, answer.count as u64);
@@ -83,7 +93,7 @@ fn read_into(image: &[u8], name: &[u8], fork: Fork, offset: u64, buffer: &mut [u
     line::end(&mut line, at, image);
 }
 
-pub fn read(image: &[u8]) -> bool {
+pub fn read(form: Form, image: &[u8]) -> bool {
     let mut name = input::name_space();
     let PlaceField::Is(length, fork, offset) = input::place_in_fork(&mut name) else {
         return false;
@@ -98,10 +108,54 @@ pub fn read(image: &[u8]) -> bool {
         return false;
     }
     read_into(
+        form,
         image,
         text::first(&name, length as usize),
         fork,
         offset,
+        &mut buffer[0..n],
+    );
+    true
+}
+
+// The buffer that an image is wrapped into, before the call. Only the length is known of it.
+fn unfilled() -> [u8; MOST]
+    ensures { λ r. ⌜ 419328 ≡ length r ⌝ }
+{
+    [0xee; MOST]
+}
+
+// Wraps the image into the buffer, and prints the line.
+fn wrap_into(image: &[u8], name: &[u8], format: u8, buffer: &mut [u8]) {
+    let number = volume::wrap(image, name, format, buffer);
+    let mut line = text::empty();
+    let mut at = line::start(&mut line, b'K', number);
+    at = line::put_number(&mut line, at, line::sum(buffer));
+    line::end(&mut line, at, image);
+}
+
+// A wrapped file, too, is taken for a bare image.
+pub fn wrap(image: &[u8]) -> bool {
+    let mut name = input::name_space();
+    let Field::Is(length) = input::name(&mut name) else {
+        return false;
+    };
+    let ByteField::Is(format) = input::byte() else {
+        return false;
+    };
+    let Field::Is(most) = input::number32() else {
+        return false;
+    };
+    let n = most as usize;
+    let mut buffer = unfilled();
+    if buffer.len() < n {
+        input::too_long();
+        return false;
+    }
+    wrap_into(
+        image,
+        text::first(&name, length as usize),
+        format,
         &mut buffer[0..n],
     );
     true

@@ -1,6 +1,8 @@
 // The records of the calls that change the image: each reads its fields, makes the call and prints its line. False ends the run.
 ghost use mathlib.Core.Path.{_≡_};
 ghost use lib.ListN.{length};
+use crate::Form;
+use crate::forms;
 use replay_records::input;
 use replay_records::input::DateField;
 use replay_records::input::Field;
@@ -24,7 +26,7 @@ fn tell(image: &[u8], tag: u8, number: u8) {
     line::end(&mut line, at, image);
 }
 
-pub fn create(image: &mut [u8]) -> bool {
+pub fn create(form: Form, image: &mut [u8]) -> bool {
     let mut name = input::name_space();
     let Field::Is(length) = input::name(&mut name) else {
         return false;
@@ -39,7 +41,8 @@ pub fn create(image: &mut [u8]) -> bool {
     let DateField::Is(changed) = input::date() else {
         return false;
     };
-    let number = volume::create(
+    let number = forms::create(
+        form,
         image,
         text::first(&name, length as usize),
         &finder,
@@ -50,7 +53,7 @@ pub fn create(image: &mut [u8]) -> bool {
     true
 }
 
-pub fn write(image: &mut [u8]) -> bool {
+pub fn write(form: Form, image: &mut [u8]) -> bool {
     let mut name = input::name_space();
     let PlaceField::Is(length, fork, offset) = input::place_in_fork(&mut name) else {
         return false;
@@ -62,7 +65,8 @@ pub fn write(image: &mut [u8]) -> bool {
     let DateField::Is(changed) = input::date() else {
         return false;
     };
-    let number = volume::write(
+    let number = forms::write(
+        form,
         image,
         text::first(&name, length as usize),
         fork,
@@ -74,7 +78,7 @@ pub fn write(image: &mut [u8]) -> bool {
     true
 }
 
-pub fn cut(image: &mut [u8]) -> bool {
+pub fn cut(form: Form, image: &mut [u8]) -> bool {
     let mut name = input::name_space();
     let PlaceField::Is(length, fork, size) = input::place_in_fork(&mut name) else {
         return false;
@@ -82,7 +86,8 @@ pub fn cut(image: &mut [u8]) -> bool {
     let DateField::Is(changed) = input::date() else {
         return false;
     };
-    let number = volume::cut(
+    let number = forms::cut(
+        form,
         image,
         text::first(&name, length as usize),
         fork,
@@ -93,12 +98,12 @@ pub fn cut(image: &mut [u8]) -> bool {
     true
 }
 
-pub fn delete(image: &mut [u8]) -> bool {
+pub fn delete(form: Form, image: &mut [u8]) -> bool {
     let mut name = input::name_space();
     let Field::Is(length) = input::name(&mut name) else {
         return false;
     };
-    let number = volume::delete(image, text::first(&name, length as usize));
+    let number = forms::delete(form, image, text::first(&name, length as usize));
     tell(image, b'D', number);
     true
 }

@@ -22,6 +22,11 @@ enum ForkField {
     Stop,
 }
 
+pub enum ByteField {
+    Is(u8),
+    Stop,
+}
+
 pub enum DateField {
     Is(u32),
     Stop,
@@ -135,13 +140,19 @@ pub fn finder(space: &mut [u8; 16]) -> Field {
     Field::Is(16)
 }
 
-fn fork() -> ForkField {
+pub fn byte() -> ByteField {
     let mut b = [0u8; 1];
     if io::read_full(0, &mut b) != 1 {
         bad_record();
-        return ForkField::Stop;
+        return ByteField::Stop;
     }
-    let n = b[0];
+    ByteField::Is(b[0])
+}
+
+fn fork() -> ForkField {
+    let ByteField::Is(n) = byte() else {
+        return ForkField::Stop;
+    };
     match n {
         0 => ForkField::Is(Fork::Data),
         1 => ForkField::Is(Fork::Resource),

@@ -7,10 +7,10 @@ use Rattle.replay.proofs.run.Statement.{statement}
 use Rattle.replay.proofs.run.Tie as tie
 
 abbrev Inv-loop : tie.InvT-loop
-Inv-loop space₀ n₀ turns₀ space n turns = length space ≡ length space₀
+Inv-loop space₀ n₀ form₀ turns₀ space n form turns = length space ≡ length space₀
 
 abbrev μ-loop : tie.MeasureT-loop
-μ-loop space₀ n₀ turns₀ space n turns = turns
+μ-loop space₀ n₀ form₀ turns₀ space n form turns = turns
 
 loop-holds : tie.Need-loop-holds Inv-loop μ-loop
 loop-holds c = omega arith
@@ -18,8 +18,8 @@ loop-holds c = omega arith
 record-requires : tie.Need-record-requires Inv-loop μ-loop
 record-requires c κs = search needs
 
-enum-known-now : tie.Need-enum-known-now Inv-loop μ-loop
-enum-known-now c = search needs
+enum-known-length : tie.Need-enum-known-length Inv-loop μ-loop
+enum-known-length c = search needs
 
 enum-told : tie.Need-enum-told Inv-loop μ-loop
 enum-told c = search needs
@@ -53,7 +53,7 @@ run-spec =
     μ-loop
     loop-holds
     record-requires
-    enum-known-now
+    enum-known-length
     enum-told
     same-length
     returns

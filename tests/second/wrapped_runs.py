@@ -1,0 +1,184 @@
+"""Runs on wrapped files, and of wrap, for the list.
+
+A file takes 409,684 bytes of the list or more, so there are few files and many
+calls on each.
+"""
+
+import random
+
+import chooser
+import diskcopy
+import hall
+import maker
+import replay
+import volume
+import water
+import wrapper
+
+ALL = replay.READING + replay.CHANGING
+ROOM = diskcopy.TAGS_AT             # the buffer's length that wrap takes
+WEEK = b'Week 01'
+
+
+def expect(tape, number, text):
+    if tape.number() != number:
+        raise SystemExit('%s: %d for %d' % (text, tape.number(), number))
+
+
+def wrap_call(rng, name_length=None, length=ROOM):
+    if name_length is None:
+        name_length = rng.choice((0, 1, 62, 63, rng.randint(2, 61)))
+    return ('K', maker.any_name(rng, name_length), rng.getrandbits(8), length)
+
+
+# Refused files
+
+def refused(tape, rng, number, text, file, m, rounds):
+    """Calls of all kinds, each of which gives this number, and a wrap, for
+    which the file is an image of wrong length."""
+    tape.add('X', file)
+    state = chooser.state_of_made(m)
+    for tag in ALL * rounds:
+        tape.some(rng, tag, state)
+        expect(tape, number, text)
+    tape.add(*wrap_call(rng))
+
+
+def refused_inside(tape):
+    """One kind of damage for each of 2 to 10."""
+    rng = random.Random(31)
+    for number in range(2, 11):
+        kind = rng.choice([k for k in maker.ON_A_DISK if k[0] == number])
+        m = maker.damaged_400k(rng, kind)
+        file = wrapper.Wrapper(rng, tags=number % 2).file(m.image())
+        refused(tape, rng, number, kind[1], file, m, 10)
+
+
+# the number, what is wrong, whether there are tags, wrong facts inside, and
+# the numbers that are changed in the file: where, by how much, their size
+OUTSIDE = (
+    (22, 'name length 64, data checksum one off', False, {},
+     ((0, 64, 1), (72, 1, 4))),
+    (23, 'both checksums one off', True, {}, ((72, 1, 4), (76, -1, 4))),
+    (23, 'last byte of the data', False, {}, ((diskcopy.TAGS_AT - 1, 1, 1),)),
+    (24, 'byte 12 of the tags', True, {}, ((diskcopy.TAGS_AT + 12, 1, 1),)),
+    (24, 'a checksum of no tags, and the signature', False,
+     {'signature': 0x4244}, ((76, 1, 4),)))
+
+
+def refused_outside(tape):
+    rng = random.Random(32)
+    for number, text, tags, facts, changes in OUTSIDE:
+        m = maker.disk_400k(rng)
+        m.wrong.update(facts)
+        file = wrapper.Wrapper(rng, name_length=0, tags=tags).file(m.image())
+        for change in changes:
+            wrapper.off(file, *change)
+        refused(tape, rng, number, text, file, m, 6)
+
+
+def short_files(tape):
+    """A sound file's first bytes."""
+    rng = random.Random(33)
+    m = maker.disk_400k(rng)
+    file = wrapper.Wrapper(rng).file(m.image())
+    for length in (0, 1, 83, 84, 85, 596, 2132, 4180):
+        refused(tape, rng, 22, 'length %d' % length, file[:length], m, 2)
+
+
+# Changes
+
+def without_tags(tape):
+    """A full disk: forks that grow until no block is left, a long run, and
+    the directory filled."""
+    rng = random.Random(34)
+    m = maker.disk_400k(rng, dir_length=3, full_disk=True, base='sparse',
+                        file_locks=0.2)
+    tape.add('X', wrapper.Wrapper(rng, name_length=62).file(m.image()))
+    for turn in range(24):
+        tape.fill_fork(rng, turn)
+        tape.some(rng, 'BR' + 'UU' * (turn % 6 == 5))
+    tape.some(rng, [rng.choice('CEFBBBRNNWWWWUUDD') for _ in range(700)])
+    for turn in range(8):
+        for length in rng.sample((31, 31, 31, 1, 30, 20, 1, 2, 27, 24), 7):
+            tape.create_new(rng, length)
+            tape.fill_last_block(rng)
+        tape.some(rng, 'EFDDRC')
+
+
+def with_tags(tape):
+    """A long run over blocks of 512 bytes."""
+    rng = random.Random(35)
+    m = maker.disk_400k_of_640(rng, base='sparse')
+    tape.add('X', wrapper.Wrapper(rng, name_length=63, tags=True).file(
+        m.image()))
+    tape.some(rng, [rng.choice('CEFFBBRRNNNWWWWUUUDD') for _ in range(1000)])
+    tape.add('C')
+
+
+def last_numbers(tape):
+    """Creates up to the last file number, on a disk of large blocks that is
+    full of bytes."""
+    rng = random.Random(36)
+    m = maker.disk_400k(rng, per=64, n=12, s=20, next_kind='near',
+                        file_locks=0.4)
+    tape.add('X', wrapper.Wrapper(rng, name_length=0, tags=True).file(
+        m.image()))
+    for length in (1, 5, 9, 31, 30, 8, 32):
+        tape.create_new(rng, length)
+        tape.some(rng, 'EFW')
+    tape.some(rng, [rng.choice('CEFBRNNWWWUUD') for _ in range(300)])
+    tape.add('C')
+
+
+def locked(tape):
+    rng = random.Random(37)
+    m = maker.disk_400k(rng, locked=True)
+    tape.add('X', wrapper.Wrapper(rng, name_length=1).file(m.image()))
+    tape.some(rng, 'CNEWFUBDR' * 14 + 'NWUDC')
+
+
+# Wrap
+
+def wraps(tape):
+    """The disk WATER, which is wrapped between changes; HALL is too short.  A
+    bare image said to be wrapped is refused by the nine calls, and wrap takes
+    it."""
+    rng = random.Random(38)
+    tape.add('I', hall.hall())
+    for _ in range(12):
+        tape.add(*wrap_call(rng))
+    disk = water.water()
+    tape.add('I', disk)
+    for turn in range(12):
+        for name_length in (0, 1, 62, 63, None):
+            tape.add(*wrap_call(rng, name_length))
+        tape.add('W', WEEK, turn % 2, 0, maker.some_bytes(rng, 20), turn)
+    for name_length in (64,) * 10 + (65, 127, 128, 255, 256, 319, 1024):
+        tape.add(*wrap_call(rng, name_length))
+    for length in (0, 1, 83, 84, 85, 512, 65535, 65536, 409600, 409683,
+                   409685, 419284, 419328):
+        tape.add(*wrap_call(rng, length=length))
+    tape.add(*wrap_call(rng, 64, 409685))
+    tape.add('X', disk)
+    tape.some(rng, ALL, chooser.state_of_volume(volume.Volume(disk)))
+    tape.add(*wrap_call(rng))
+
+
+def refused_wraps(tape, rng, kind):
+    """Wraps of a disk with one kind of damage, which are not in the list."""
+    tape.add('I', maker.damaged_400k(rng, kind, base='sparse').image())
+    for _ in range(5):
+        tape.add(*wrap_call(rng))
+        expect(tape, kind[0], kind[1])
+
+
+def runs(tape):
+    refused_inside(tape)
+    refused_outside(tape)
+    short_files(tape)
+    without_tags(tape)
+    with_tags(tape)
+    last_numbers(tape)
+    locked(tape)
+    wraps(tape)
