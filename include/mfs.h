@@ -1,16 +1,21 @@
 /*
- * mfs.h: the calls on images of MFS disks, for C and C++ on x86-64 Linux.
+ * mfs.h: the calls on images of MFS disks, bare or wrapped as Disk Copy 4.2 files, for C and C++ on x86-64 Linux.
  * Build the archive by `rt staticlib archive` and link target/staticlib/libarchive.a.
  *
  * The image is the whole disk, one run of bytes that the caller lends. Every call checks it first, so a call on any bytes is
  * safe. No call keeps anything from one call to the next, allocates memory or opens a file.
  *
+ * A wrapped file is a Disk Copy 4.2 file of a 400K disk: a header, the image, and the disk's tags where it has them. Each call
+ * on an image has a second one whose name begins with mfs_wrapped_: it takes the whole file in the image's place and does the
+ * same with the image inside. mfs_wrap makes a wrapped file of an image.
+ *
  * Names are bytes in Mac OS Roman, with no zero at their end. Letters a to z equal A to Z; every other byte equals only itself.
  * Dates are seconds since 1 January 1904 in the local time of the machine that wrote them; they are handed out as stored.
  * Places count from 0.
  *
- * Pointers: none is NULL, also where its length is 0, and each has at least its length of bytes behind it. The image of a call
- * that changes it, and the buffer of mfs_read, share no byte with any other argument.
+ * Pointers: none is NULL, also where its length is 0, and each has at least its length of bytes behind it. The image or wrapped
+ * file of a call that changes it, and the buffer of mfs_read, mfs_wrapped_read and mfs_wrap, share no byte with any other
+ * argument.
  */
 #ifndef MFS_H
 #define MFS_H
@@ -23,8 +28,9 @@ extern "C" {
 #endif
 
 /*
- * The number that each call gives back. On a refusal all other results are zero, and neither the image nor the buffer changes.
- * Conditions are tried in the order of each call's list; the first that holds gives the number. Every call begins with 1 to 10.
+ * The number that each call gives back. On a refusal all other results are zero, and neither the image or file nor the buffer
+ * changes. Conditions are tried in the order of each call's list; the first that holds gives the number. Every call on an image
+ * begins with 1 to 10, but mfs_wrap, which has 22 before them; every call on a wrapped file has 22, 23 and 24 before them.
  */
 enum {
     MFS_SUCCESS = 0,
@@ -71,7 +77,21 @@ enum {
     /* the next file number is 4,294,967,295: no file can be created any more */
     MFS_NO_FILE_NUMBER = 19,
     /* the given name is longer than 31 bytes, which no new file may have; there is no 20 */
-    MFS_NAME_TOO_LONG = 21
+    MFS_NAME_TOO_LONG = 21,
+    /* the wrapped file has another length, or another header, than a Disk Copy 4.2 file of a 400K disk; from mfs_wrap: the
+       image, the buffer or the name has a wrong length */
+    MFS_BAD_CONTAINER = 22,
+    /* the data checksum in the wrapped file's header is not that of the image inside */
+    MFS_BAD_DATA_CHECKSUM = 23,
+    /* the tag checksum in the wrapped file's header is not that of its tags, or not 0 where it has none */
+    MFS_BAD_TAG_CHECKSUM = 24
+};
+
+/* Lengths in bytes: of a 400K disk's image, and of a wrapped file without tags and with them. */
+enum {
+    MFS_IMAGE_400K = 409600,
+    MFS_WRAPPED_LENGTH = 409684,
+    MFS_WRAPPED_TAGGED_LENGTH = 419284
 };
 
 /* A call's choice of fork. Every other number is taken for the resource fork. */
@@ -192,6 +212,51 @@ uint8_t mfs_cut(uint8_t *image, size_t image_length, const uint8_t *name, size_t
 
 /* Deletes a file and frees both its forks. Refusals: 1 to 10, 11, 12, 13, 15. */
 uint8_t mfs_delete(uint8_t *image, size_t image_length, const uint8_t *name, size_t name_length);
+
+/*
+ * The same calls on a wrapped file. Its length is MFS_WRAPPED_LENGTH or MFS_WRAPPED_TAGGED_LENGTH. The header has 84 bytes,
+ * with big-endian numbers: the name, of at most 63 bytes behind its length byte; at 64 the data size, 409,600; at 68 the tag
+ * size, 0 or 9,600; at 72 the data checksum and at 76 the tag checksum; at 80 the encoding, 0; at 81 the format byte; at 82
+ * the two bytes 01 00. The image follows, then the tags.
+ *
+ * A checksum is a 32-bit number, from 0 on: each 16-bit word is added, and the sum is then turned right by one bit. That of the
+ * tags leaves out their first 12 bytes, and is 0 where there are none.
+ *
+ * A call that changes the image inside also stores the new data checksum at 72. No other byte outside the image changes: the
+ * name's field, the format byte and the tags are carried.
+ *
+ * Refusals: 22, 23, 24, then those of the call on an image; 1 can't come.
+ */
+mfs_check_answer mfs_wrapped_check(const uint8_t *file, size_t file_length);
+
+mfs_entry_answer mfs_wrapped_entry(const uint8_t *file, size_t file_length, uint64_t place);
+
+mfs_find_answer mfs_wrapped_find(const uint8_t *file, size_t file_length, const uint8_t *name, size_t name_length);
+
+mfs_block_answer mfs_wrapped_block(const uint8_t *file, size_t file_length, const uint8_t *name, size_t name_length, uint8_t fork,
+                                   uint64_t place);
+
+mfs_read_answer mfs_wrapped_read(const uint8_t *file, size_t file_length, const uint8_t *name, size_t name_length, uint8_t fork,
+                                 uint64_t offset, uint8_t *buffer, size_t buffer_length);
+
+uint8_t mfs_wrapped_create(uint8_t *file, size_t file_length, const uint8_t *name, size_t name_length, const uint8_t finder[16],
+                           uint32_t created, uint32_t changed);
+
+uint8_t mfs_wrapped_write(uint8_t *file, size_t file_length, const uint8_t *name, size_t name_length, uint8_t fork,
+                          uint64_t offset, const uint8_t *bytes, size_t bytes_length, uint32_t changed);
+
+uint8_t mfs_wrapped_cut(uint8_t *file, size_t file_length, const uint8_t *name, size_t name_length, uint8_t fork, uint64_t size,
+                        uint32_t changed);
+
+uint8_t mfs_wrapped_delete(uint8_t *file, size_t file_length, const uint8_t *name, size_t name_length);
+
+/*
+ * Wraps an image of MFS_IMAGE_400K bytes: fills the buffer, whose length is MFS_WRAPPED_LENGTH, with a wrapped file of this
+ * name, of at most 63 bytes, and this format byte, without tags. The rest of the name's field is zero.
+ * Refusals: 22, then those of mfs_check; 1 can't come.
+ */
+uint8_t mfs_wrap(const uint8_t *image, size_t image_length, const uint8_t *name, size_t name_length, uint8_t format,
+                 uint8_t *buffer, size_t buffer_length);
 
 #ifdef __cplusplus
 }

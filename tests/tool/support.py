@@ -1,6 +1,7 @@
 """What the tests of the tool share: the tool run on images in a folder of its
-own, and the second program to compare with."""
+own, the second program to compare with, and wrapped files."""
 
+import json
 import os
 import random
 import re
@@ -13,6 +14,7 @@ HERE = os.path.dirname(os.path.abspath(__file__))
 ROOT = os.path.dirname(os.path.dirname(HERE))
 sys.path.insert(0, os.path.join(ROOT, 'tests', 'second'))
 
+import diskcopy  # noqa: E402
 import generate  # noqa: E402
 import hall  # noqa: E402
 import listing  # noqa: E402
@@ -80,6 +82,16 @@ def as_text(name):
         bytes([b]).decode('mac_roman') for b in name)
 
 
+def wrapped(image, name=b'', format_byte=2, tags=b'', rest=b''):
+    """A Disk Copy 4.2 file; rest stands behind the name in its field."""
+    image = bytes(image)
+    sums = (diskcopy.checksum(image),
+            diskcopy.checksum(tags[diskcopy.TAGS_LEFT_OUT:]))
+    header = diskcopy.HEADER.pack(len(name), name + rest, len(image),
+                                  len(tags), *sums, 0, format_byte, 0x0100)
+    return header + image + tags
+
+
 class Case(unittest.TestCase):
 
     def setUp(self):
@@ -128,6 +140,29 @@ class Case(unittest.TestCase):
         self.assertRegex(ran.err, r'\Amfs: [^\n]+\n')
         self.assertNotIn('panicked', ran.err)
         return ran
+
+    def all_refuse(self, number, *options):
+        """Every verb refuses the image by this number."""
+        self.assertEqual(
+            self.refused(number, 'check', *options, self.image).out, b'')
+        for args in ((), ('-l',)):
+            ran = self.refused(number, 'list', *args, *options, self.image)
+            self.assertEqual(ran.out, b'refused %d\n' % number)
+        for args in (('info', self.image), ('map', self.image),
+                     ('get', self.image, 'A'), ('get', self.image, ''),
+                     ('put', '--date=@1', '--as=A', self.image, '-'),
+                     ('append', '--date=@1', self.image, 'A', '-'),
+                     ('cut', '--date=@1', self.image, 'A', '0'),
+                     ('delete', self.image, 'A')):
+            ran = self.refused(number, *args, *options)
+            self.assertEqual(ran.out, b'')
+        for args in (('info',), ('list',)):
+            ran = self.refused(number, *args, '--json', *options, self.image)
+            told = json.loads(ran.out)
+            self.assertEqual((told['image'], told['sound'], told['refused']),
+                             (self.image, False, number))
+            self.assertIn(': refused %d: %s\n' % (number, told['words']),
+                          ran.err)
 
     def only(self, *names):
         """The folder holds these files and no other."""

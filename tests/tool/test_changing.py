@@ -39,7 +39,8 @@ def delete(image, names):
     return [n for n in numbers if n], image if any(numbers) else copy
 
 
-class Changing(Case):
+class Commands(Case):
+    """Commands that are compared with the second program."""
 
     def compare(self, wanted, *args, stdin=b''):
         """Runs a command; the image and the refusals must be as wanted."""
@@ -94,6 +95,9 @@ class Changing(Case):
             options, rest = [], [self.image, *map(as_text, names)]
         words = [verb, *options, '--', *rest]
         return self.compare(wanted, *words, stdin=data)
+
+
+class Changing(Commands):
 
     def test_by_chance(self):
         rng = random.Random(33)

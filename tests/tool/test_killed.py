@@ -11,7 +11,7 @@ import subprocess
 import time
 import unittest
 
-from support import Case, Ran, SECONDS, TOOL, hall, volume, water
+from support import Case, Ran, SECONDS, TOOL, hall, volume, water, wrapped
 
 STRACE = shutil.which('strace')
 NEW = b'new bytes ' * 90
@@ -131,6 +131,8 @@ class Killed(Case):
                   b'old', log, inject, check)
         self.each(('get', 'disk.img', 'Log', 'out'), 'out', fresh_new, None,
                   log, inject, check)
+        self.each(('wrap', 'disk.img', 'out'), 'out', fresh_get, b'old',
+                  wrapped(disk, b'WATER'), inject, check)
 
     def test_killed(self):
         def check(ran, now, names, call):
@@ -157,6 +159,19 @@ class Killed(Case):
                 self.assertEqual(self.read(), new)
                 self.only('disk.img')
         self.assertEqual(outcomes, {False, True})
+
+    def test_killed_in_a_wrapped_file(self):
+        """The image and its checksum are saved together."""
+        source = self.write(NEW, 'source')
+        image = bytes(hall.hall()).ljust(409600, b'\0')
+        old, new = (wrapped(data, b'Desk', tags=b'tag ' * 2400)
+                    for data in (image, put(image)))
+
+        def check(ran, now, names, call):
+            self.assertIn(ran.status, (-9, 137), ran)
+        self.each(('put', '--date=@7', '--as=WEEK1', 'disk.img', source),
+                  'disk.img', lambda: self.write(old), old, new,
+                  'signal=KILL', check)
 
     def test_failed(self):
         def check(ran, now, names, call):

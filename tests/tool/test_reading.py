@@ -196,27 +196,9 @@ class Refused(Case):
                 self.assertEqual(self.read(), image)
 
     def check_refused(self, number):
-        line = b'refused %d\n' % number
         self.assertEqual(volume.check(bytearray(self.read()))[0], number)
-        self.assertEqual(self.refused(number, 'check', self.image).out, b'')
-        for args in ((), ('-l',)):
-            self.assertEqual(
-                self.refused(number, 'list', *args, self.image).out, line)
-        for args in (('info', self.image), ('map', self.image),
-                     ('get', self.image, 'A'), ('get', self.image, ''),
-                     ('put', '--date=@1', '--as=A', self.image, '-'),
-                     ('append', '--date=@1', self.image, 'A', '-'),
-                     ('cut', '--date=@1', self.image, 'A', '0'),
-                     ('delete', self.image, 'A')):
-            self.assertEqual(self.refused(number, *args).out, b'')
+        self.all_refuse(number)
         self.only('disk.img')
-        for args in (('info',), ('list',)):
-            ran = self.refused(number, *args, '--json', self.image)
-            told = json.loads(ran.out)
-            self.assertEqual((told['image'], told['sound'], told['refused']),
-                             (self.image, False, number))
-            self.assertIn(': refused %d: %s\n' % (number, told['words']),
-                          ran.err)
 
     def test_several_images(self):
         good = self.write(hall.hall(), 'good.img')

@@ -10,7 +10,7 @@ RESULTS = (('check', 'disk.img'), ('check', '--json', 'disk.img'),
            ('list', '--json', 'disk.img'), ('info', 'disk.img'),
            ('info', '--json', 'disk.img'), ('map', 'disk.img'),
            ('get', 'disk.img', 'Log'), ('get', 'disk.img', 'Log', '-'),
-           ('help',), ('help', 'list'))
+           ('wrap', 'disk.img', '-'), ('help',), ('help', 'list'))
 
 
 class Streams(Case):

@@ -5,7 +5,7 @@ import os
 from support import Case, hall
 
 VERBS = ('check', 'list', 'info', 'map', 'get', 'put', 'append', 'cut',
-         'delete', 'help')
+         'delete', 'wrap', 'unwrap', 'help')
 
 
 class Usage(Case):
@@ -80,6 +80,35 @@ class Usage(Case):
                 ['delete'], ['delete', 'disk.img'],
                 ['delete', d, 'disk.img', 'WEEK1'],
                 ['delete', '-r', 'disk.img', 'WEEK1'],
+                *([*line, '--wrapped', '--bare'] for line in (
+                    ['check', 'disk.img'], ['list', 'disk.img'],
+                    ['info', 'disk.img'], ['map', 'disk.img'],
+                    ['get', 'disk.img', 'WEEK1'],
+                    ['put', d, 'disk.img', 'file'],
+                    ['append', d, 'disk.img', 'WEEK1', 'file'],
+                    ['cut', d, 'disk.img', 'WEEK1', '0'],
+                    ['delete', 'disk.img', 'WEEK1'])),
+                ['check', '--wrapped', '--wrapped', 'disk.img'],
+                ['check', '--wrapped=1', 'disk.img'],
+                ['check', '--name', 'x', 'disk.img'],
+                ['info', '--format', '2', 'disk.img'],
+                ['wrap'], ['wrap', 'disk.img'],
+                ['wrap', 'disk.img', 'new', 'x'],
+                ['wrap', '--bare', 'disk.img', 'new'],
+                ['wrap', '--wrapped', 'disk.img', 'new'],
+                ['wrap', '--json', 'disk.img', 'new'],
+                ['wrap', '--as', 'x', 'disk.img', 'new'],
+                ['wrap', 'disk.img', 'new', '--name'],
+                ['wrap', '--name', 'A\\B', 'disk.img', 'new'],
+                ['wrap', '--name', '\u65e5', 'disk.img', 'new'],
+                ['wrap', '--name', 'a', '--name', 'b', 'disk.img', 'new'],
+                *(['wrap', '--format', byte, 'disk.img', 'new'] for byte in (
+                    '', '256', '-1', '+1', ' 1', '1 ', '1.0', 'two', '0x',
+                    '0x100', '0x+1', '0x-1', '0xG', 'x02', '$02', b'\xff')),
+                ['unwrap'], ['unwrap', 'disk.img'],
+                ['unwrap', 'disk.img', 'new', 'x'],
+                ['unwrap', '--wrapped', 'disk.img', 'new'],
+                ['unwrap', '--name', 'x', 'disk.img', 'new'],
                 ['help', 'frob'], ['help', 'list', 'list']):
             with self.subTest(line):
                 self.wrong(*line)

@@ -1,15 +1,28 @@
-// The calls for programs in C and other languages: each is the call of `volume`, with a number for the fork.
+// The calls for programs in C and other languages: each is the call of `volume` or of `wrapped`, with a number for the fork.
 // include/mfs.h declares them.
 ghost use mathlib.Core.Path.{_≡_};
 ghost use Rattle.model.specs.Calls.{Call, Does};
 ghost use Rattle.files.specs.Told.{toldCheck, toldEntry, toldFind, toldBlock, toldRead, toldNumber};
 ghost use Rattle.archive.specs.Forks.{forkNumbered};
+
+mod wrapped_files;
+
 use files::BlockAnswer;
 use files::CheckAnswer;
 use files::EntryAnswer;
 use files::FindAnswer;
 use files::ReadAnswer;
 use model::Fork;
+pub use wrapped_files::mfs_wrap;
+pub use wrapped_files::mfs_wrapped_block;
+pub use wrapped_files::mfs_wrapped_check;
+pub use wrapped_files::mfs_wrapped_create;
+pub use wrapped_files::mfs_wrapped_cut;
+pub use wrapped_files::mfs_wrapped_delete;
+pub use wrapped_files::mfs_wrapped_entry;
+pub use wrapped_files::mfs_wrapped_find;
+pub use wrapped_files::mfs_wrapped_read;
+pub use wrapped_files::mfs_wrapped_write;
 
 // The fork of a number: 0 is the data fork, every other number the resource fork.
 fn fork_numbered(number: u8) -> Fork

@@ -1,5 +1,6 @@
 //! A call with its arguments.
 
+use crate::baseline::{self, Fork, Refusal};
 use std::fmt;
 use std::ops::Deref;
 
@@ -25,7 +26,7 @@ impl fmt::Debug for Bytes {
     }
 }
 
-/// A call and what it is given beside the image. A fork is its number for the archive.
+/// A call and what it is given beside the image or the wrapped file. A fork is its number for the archive.
 #[derive(Clone, Debug)]
 pub enum Call {
     Check,
@@ -45,12 +46,17 @@ pub enum Call {
     Cut(Bytes, u8, u64, u32),
     /// Name.
     Delete(Bytes),
+    /// Name, format byte, the buffer's length. It takes only bare images.
+    Wrap(Bytes, u8, usize),
 }
 
 /// The calls' names, each at its kind.
-pub const KINDS: [&str; 9] = [
-    "check", "entry", "find", "block", "read", "create", "write", "cut", "delete",
+pub const KINDS: [&str; 10] = [
+    "check", "entry", "find", "block", "read", "create", "write", "cut", "delete", "wrap",
 ];
+
+/// The kind of wrap.
+pub const WRAP: usize = 9;
 
 impl Call {
     /// Which call it is.
@@ -65,18 +71,32 @@ impl Call {
             Call::Write(..) => 6,
             Call::Cut(..) => 7,
             Call::Delete(..) => 8,
+            Call::Wrap(..) => WRAP,
         }
     }
 
     /// Whether it may change the image.
     pub fn changes(&self) -> bool {
-        self.kind() >= 5
+        (5..WRAP).contains(&self.kind())
+    }
+
+    /// Makes it by the baseline if it is one of those that change an image; the others do nothing here.
+    pub fn change(&self, image: &mut [u8]) -> Result<(), Refusal> {
+        match self {
+            Call::Create(name, finder, created, changed) => baseline::create(image, name, finder, *created, *changed),
+            Call::Write(name, fork, offset, bytes, changed) => {
+                baseline::write(image, name, Fork::of(*fork), *offset, bytes, *changed)
+            }
+            Call::Cut(name, fork, size, changed) => baseline::cut(image, name, Fork::of(*fork), *size, *changed),
+            Call::Delete(name) => baseline::delete(image, name),
+            _ => Ok(()),
+        }
     }
 
     /// How long a buffer it is lent.
     pub fn buffer_length(&self) -> usize {
         match self {
-            Call::Read(_, _, _, length) => *length,
+            Call::Read(_, _, _, length) | Call::Wrap(_, _, length) => *length,
             _ => 0,
         }
     }

@@ -4,6 +4,7 @@
 //! behind a `*mut`, and ask nothing of their arguments. The structs hold plain numbers, for which every bit pattern is
 //! good.
 
+use crate::baseline::Form;
 use std::ffi::c_void;
 
 #[derive(Clone, Copy, Debug, Default, PartialEq, Eq)]
@@ -85,70 +86,112 @@ pub struct ReadAnswer {
     pub count: usize,
 }
 
+/// Declares each call on an image, and the same call on a wrapped file.
+macro_rules! declare {
+    ($($bare:ident, $wrapped:ident $parameters:tt -> $answer:ty;)*) => {
+        extern "C" {
+            $(
+                fn $bare $parameters -> $answer;
+                fn $wrapped $parameters -> $answer;
+            )*
+        }
+    };
+}
+
 #[rustfmt::skip]
-extern "C" {
-    fn mfs_check(image: *const u8, image_length: usize) -> CheckAnswer;
-    fn mfs_entry(image: *const u8, image_length: usize, place: u64) -> EntryAnswer;
-    fn mfs_find(image: *const u8, image_length: usize, name: *const u8, name_length: usize) -> FindAnswer;
-    fn mfs_block(image: *const u8, image_length: usize, name: *const u8, name_length: usize, fork: u8, place: u64)
-        -> BlockAnswer;
-    fn mfs_read(image: *const u8, image_length: usize, name: *const u8, name_length: usize, fork: u8, offset: u64,
-        buffer: *mut u8, buffer_length: usize) -> ReadAnswer;
-    fn mfs_create(image: *mut u8, image_length: usize, name: *const u8, name_length: usize, finder: *const u8,
-        created: u32, changed: u32) -> u8;
-    fn mfs_write(image: *mut u8, image_length: usize, name: *const u8, name_length: usize, fork: u8, offset: u64,
-        bytes: *const u8, bytes_length: usize, changed: u32) -> u8;
-    fn mfs_cut(image: *mut u8, image_length: usize, name: *const u8, name_length: usize, fork: u8, size: u64,
-        changed: u32) -> u8;
-    fn mfs_delete(image: *mut u8, image_length: usize, name: *const u8, name_length: usize) -> u8;
-}
-
-pub fn check(image: &[u8]) -> CheckAnswer {
-    unsafe { mfs_check(image.as_ptr(), image.len()) }
-}
-
-pub fn entry(image: &[u8], place: u64) -> EntryAnswer {
-    unsafe { mfs_entry(image.as_ptr(), image.len(), place) }
-}
-
-pub fn find(image: &[u8], name: &[u8]) -> FindAnswer {
-    unsafe { mfs_find(image.as_ptr(), image.len(), name.as_ptr(), name.len()) }
-}
-
-pub fn block(image: &[u8], name: &[u8], fork: u8, place: u64) -> BlockAnswer {
-    unsafe { mfs_block(image.as_ptr(), image.len(), name.as_ptr(), name.len(), fork, place) }
+declare! {
+    mfs_check, mfs_wrapped_check(file: *const u8, file_length: usize) -> CheckAnswer;
+    mfs_entry, mfs_wrapped_entry(file: *const u8, file_length: usize, place: u64) -> EntryAnswer;
+    mfs_find, mfs_wrapped_find(file: *const u8, file_length: usize, name: *const u8, name_length: usize) -> FindAnswer;
+    mfs_block, mfs_wrapped_block(file: *const u8, file_length: usize, name: *const u8, name_length: usize, fork: u8,
+        place: u64) -> BlockAnswer;
+    mfs_read, mfs_wrapped_read(file: *const u8, file_length: usize, name: *const u8, name_length: usize, fork: u8,
+        offset: u64, buffer: *mut u8, buffer_length: usize) -> ReadAnswer;
+    mfs_create, mfs_wrapped_create(file: *mut u8, file_length: usize, name: *const u8, name_length: usize,
+        finder: *const u8, created: u32, changed: u32) -> u8;
+    mfs_write, mfs_wrapped_write(file: *mut u8, file_length: usize, name: *const u8, name_length: usize, fork: u8,
+        offset: u64, bytes: *const u8, bytes_length: usize, changed: u32) -> u8;
+    mfs_cut, mfs_wrapped_cut(file: *mut u8, file_length: usize, name: *const u8, name_length: usize, fork: u8,
+        size: u64, changed: u32) -> u8;
+    mfs_delete, mfs_wrapped_delete(file: *mut u8, file_length: usize, name: *const u8, name_length: usize) -> u8;
 }
 
 #[rustfmt::skip]
-pub fn read(image: &[u8], name: &[u8], fork: u8, offset: u64, buffer: &mut [u8]) -> ReadAnswer {
+extern "C" {
+    fn mfs_wrap(image: *const u8, image_length: usize, name: *const u8, name_length: usize, format: u8,
+        buffer: *mut u8, buffer_length: usize) -> u8;
+}
+
+/// The call on an image, or the one on a wrapped file.
+macro_rules! call {
+    ($form:expr, $bare:ident, $wrapped:ident) => {
+        match $form {
+            Form::Bare => $bare,
+            Form::Wrapped => $wrapped,
+        }
+    };
+}
+
+pub fn check(form: Form, file: &[u8]) -> CheckAnswer {
+    let call = call!(form, mfs_check, mfs_wrapped_check);
+    unsafe { call(file.as_ptr(), file.len()) }
+}
+
+pub fn entry(form: Form, file: &[u8], place: u64) -> EntryAnswer {
+    let call = call!(form, mfs_entry, mfs_wrapped_entry);
+    unsafe { call(file.as_ptr(), file.len(), place) }
+}
+
+pub fn find(form: Form, file: &[u8], name: &[u8]) -> FindAnswer {
+    let call = call!(form, mfs_find, mfs_wrapped_find);
+    unsafe { call(file.as_ptr(), file.len(), name.as_ptr(), name.len()) }
+}
+
+pub fn block(form: Form, file: &[u8], name: &[u8], fork: u8, place: u64) -> BlockAnswer {
+    let call = call!(form, mfs_block, mfs_wrapped_block);
+    unsafe { call(file.as_ptr(), file.len(), name.as_ptr(), name.len(), fork, place) }
+}
+
+#[rustfmt::skip]
+pub fn read(form: Form, file: &[u8], name: &[u8], fork: u8, offset: u64, buffer: &mut [u8]) -> ReadAnswer {
+    let call = call!(form, mfs_read, mfs_wrapped_read);
     unsafe {
-        mfs_read(image.as_ptr(), image.len(), name.as_ptr(), name.len(), fork, offset, buffer.as_mut_ptr(),
+        call(file.as_ptr(), file.len(), name.as_ptr(), name.len(), fork, offset, buffer.as_mut_ptr(),
             buffer.len())
     }
 }
 
 #[rustfmt::skip]
-pub fn create(image: &mut [u8], name: &[u8], finder: &[u8; 16], created: u32, changed: u32) -> u8 {
-    unsafe {
-        mfs_create(image.as_mut_ptr(), image.len(), name.as_ptr(), name.len(), finder.as_ptr(), created, changed)
-    }
+pub fn create(form: Form, file: &mut [u8], name: &[u8], finder: &[u8; 16], created: u32, changed: u32) -> u8 {
+    let call = call!(form, mfs_create, mfs_wrapped_create);
+    unsafe { call(file.as_mut_ptr(), file.len(), name.as_ptr(), name.len(), finder.as_ptr(), created, changed) }
 }
 
 #[rustfmt::skip]
-pub fn write(image: &mut [u8], name: &[u8], fork: u8, offset: u64, bytes: &[u8], changed: u32) -> u8 {
+pub fn write(form: Form, file: &mut [u8], name: &[u8], fork: u8, offset: u64, bytes: &[u8], changed: u32) -> u8 {
+    let call = call!(form, mfs_write, mfs_wrapped_write);
     unsafe {
-        mfs_write(image.as_mut_ptr(), image.len(), name.as_ptr(), name.len(), fork, offset, bytes.as_ptr(),
+        call(file.as_mut_ptr(), file.len(), name.as_ptr(), name.len(), fork, offset, bytes.as_ptr(),
             bytes.len(), changed)
     }
 }
 
 #[rustfmt::skip]
-pub fn cut(image: &mut [u8], name: &[u8], fork: u8, size: u64, changed: u32) -> u8 {
-    unsafe { mfs_cut(image.as_mut_ptr(), image.len(), name.as_ptr(), name.len(), fork, size, changed) }
+pub fn cut(form: Form, file: &mut [u8], name: &[u8], fork: u8, size: u64, changed: u32) -> u8 {
+    let call = call!(form, mfs_cut, mfs_wrapped_cut);
+    unsafe { call(file.as_mut_ptr(), file.len(), name.as_ptr(), name.len(), fork, size, changed) }
 }
 
-pub fn delete(image: &mut [u8], name: &[u8]) -> u8 {
-    unsafe { mfs_delete(image.as_mut_ptr(), image.len(), name.as_ptr(), name.len()) }
+pub fn delete(form: Form, file: &mut [u8], name: &[u8]) -> u8 {
+    let call = call!(form, mfs_delete, mfs_wrapped_delete);
+    unsafe { call(file.as_mut_ptr(), file.len(), name.as_ptr(), name.len()) }
+}
+
+#[rustfmt::skip]
+pub fn wrap(image: &[u8], name: &[u8], format: u8, buffer: &mut [u8]) -> u8 {
+    unsafe {
+        mfs_wrap(image.as_ptr(), image.len(), name.as_ptr(), name.len(), format, buffer.as_mut_ptr(), buffer.len())
+    }
 }
 
 /// Room for glibc's pthread_attr_t, which has 56 bytes on x86-64.

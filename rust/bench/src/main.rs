@@ -39,7 +39,7 @@ fn usage() -> ExitCode {
     ExitCode::from(2)
 }
 
-/// Exit status 1 for a difference, whose image is kept in the folder for temporary files.
+/// Exit status 1 for a difference, whose image or wrapped file is kept in the folder for temporary files.
 fn differ(seed: u64, calls: u64) -> ExitCode {
     match differ::run(seed, calls) {
         Ok(report) => {
@@ -49,9 +49,12 @@ fn differ(seed: u64, calls: u64) -> ExitCode {
         Err(difference) => {
             print!("{difference}");
             let path = std::env::temp_dir().join(format!("bench-differ-{seed}.img"));
-            match std::fs::write(&path, &difference.image) {
-                Ok(()) => println!("the image before the call: {}", path.display()),
-                Err(error) => println!("the image before the call is not kept: {}: {error}", path.display()),
+            match std::fs::write(&path, &difference.file) {
+                Ok(()) => println!("the image or file before the call: {}", path.display()),
+                Err(error) => println!(
+                    "the image or file before the call is not kept: {}: {error}",
+                    path.display()
+                ),
             }
             ExitCode::FAILURE
         }

@@ -1,8 +1,8 @@
 //! The calls whose instructions and stack are measured, made by the archive or by the baseline.
 
-use crate::baseline::{self, Fork, Refusal};
+use crate::baseline::{self, Fork, Form, Refusal};
 use crate::call::{Bytes, Call};
-use crate::images::{self, get2, get4};
+use crate::images::{self, get2, get4, DATA, HEADER};
 use crate::{foreign, stack};
 use std::hint::black_box;
 
@@ -12,30 +12,44 @@ enum Side {
     Baseline,
 }
 
-/// A call on an image.
+/// A call on an image, or on a wrapped file.
 struct Measured {
     name: &'static str,
-    image: Vec<u8>,
+    form: Form,
+    file: Vec<u8>,
     call: Call,
 }
 
-/// A call with an image and a buffer of its own.
+/// A call with a file and a buffer of its own.
 struct Prepared<'a> {
     call: &'a Call,
-    image: Vec<u8>,
+    form: Form,
+    file: Vec<u8>,
     buffer: Vec<u8>,
 }
 
 impl Measured {
     fn new(name: &'static str, image: &[u8], call: Call) -> Measured {
-        let image = image.to_vec();
-        Measured { name, image, call }
+        Measured {
+            name,
+            form: Form::Bare,
+            file: image.to_vec(),
+            call,
+        }
+    }
+
+    fn wrapped(name: &'static str, file: &[u8], call: Call) -> Measured {
+        Measured {
+            form: Form::Wrapped,
+            ..Measured::new(name, file, call)
+        }
     }
 
     fn prepare(&self) -> Prepared<'_> {
         Prepared {
             call: &self.call,
-            image: self.image.clone(),
+            form: self.form,
+            file: self.file.clone(),
             buffer: vec![0x5A; self.call.buffer_length()],
         }
     }
@@ -51,40 +65,45 @@ impl Prepared<'_> {
     }
 
     fn run_archive(&mut self) -> u8 {
-        let (image, buffer) = (&mut self.image, &mut self.buffer);
+        let (form, file, buffer) = (self.form, &mut self.file, &mut self.buffer);
         match self.call {
-            Call::Check => black_box(foreign::check(image)).number,
-            Call::Entry(place) => black_box(foreign::entry(image, *place)).number,
-            Call::Find(name) => black_box(foreign::find(image, name)).number,
-            Call::Block(name, fork, place) => black_box(foreign::block(image, name, *fork, *place)).number,
-            Call::Read(name, fork, offset, _) => black_box(foreign::read(image, name, *fork, *offset, buffer)).number,
-            Call::Create(name, finder, created, changed) => foreign::create(image, name, finder, *created, *changed),
-            Call::Write(name, fork, offset, bytes, changed) => {
-                foreign::write(image, name, *fork, *offset, bytes, *changed)
+            Call::Check => black_box(foreign::check(form, file)).number,
+            Call::Entry(place) => black_box(foreign::entry(form, file, *place)).number,
+            Call::Find(name) => black_box(foreign::find(form, file, name)).number,
+            Call::Block(name, fork, place) => black_box(foreign::block(form, file, name, *fork, *place)).number,
+            Call::Read(name, fork, offset, _) => {
+                black_box(foreign::read(form, file, name, *fork, *offset, buffer)).number
             }
-            Call::Cut(name, fork, size, changed) => foreign::cut(image, name, *fork, *size, *changed),
-            Call::Delete(name) => foreign::delete(image, name),
+            Call::Create(name, finder, created, changed) => {
+                foreign::create(form, file, name, finder, *created, *changed)
+            }
+            Call::Write(name, fork, offset, bytes, changed) => {
+                foreign::write(form, file, name, *fork, *offset, bytes, *changed)
+            }
+            Call::Cut(name, fork, size, changed) => foreign::cut(form, file, name, *fork, *size, *changed),
+            Call::Delete(name) => foreign::delete(form, file, name),
+            Call::Wrap(name, format, _) => foreign::wrap(file, name, *format, buffer),
         }
     }
 
     fn run_baseline(&mut self) -> u8 {
-        let (image, buffer) = (&mut self.image, &mut self.buffer);
+        let (form, file, buffer) = (self.form, &mut self.file, &mut self.buffer);
         match self.call {
-            Call::Check => number(baseline::check(image)),
-            Call::Entry(place) => number(baseline::entry(image, *place)),
-            Call::Find(name) => number(baseline::find(image, name)),
-            Call::Block(name, fork, place) => number(baseline::block(image, name, Fork::of(*fork), *place)),
-            Call::Read(name, fork, offset, _) => number(baseline::read(image, name, Fork::of(*fork), *offset, buffer)),
-            Call::Create(name, finder, created, changed) => {
-                number(baseline::create(image, name, finder, *created, *changed))
+            Call::Check => number(form.image(file).and_then(baseline::check)),
+            Call::Entry(place) => number(form.image(file).and_then(|image| baseline::entry(image, *place))),
+            Call::Find(name) => number(form.image(file).and_then(|image| baseline::find(image, name))),
+            Call::Block(name, fork, place) => {
+                let image = form.image(file);
+                number(image.and_then(|image| baseline::block(image, name, Fork::of(*fork), *place)))
             }
-            Call::Write(name, fork, offset, bytes, changed) => {
-                number(baseline::write(image, name, Fork::of(*fork), *offset, bytes, *changed))
+            Call::Read(name, fork, offset, _) => {
+                let image = form.image(file);
+                number(image.and_then(|image| baseline::read(image, name, Fork::of(*fork), *offset, buffer)))
             }
-            Call::Cut(name, fork, size, changed) => {
-                number(baseline::cut(image, name, Fork::of(*fork), *size, *changed))
+            Call::Create(..) | Call::Write(..) | Call::Cut(..) | Call::Delete(..) => {
+                number(form.change(file, |image| self.call.change(image)))
             }
-            Call::Delete(name) => number(baseline::delete(image, name)),
+            Call::Wrap(name, format, _) => number(baseline::wrap(file, name, *format, buffer)),
         }
     }
 }
@@ -100,7 +119,7 @@ fn number<T>(result: Result<T, Refusal>) -> u8 {
 }
 
 /// The calls on an accepted volume, all on its last file: the whole data fork is read, written over, written anew after
-/// a cut to 0, and cut to half. Create has an image without that file.
+/// a cut to 0, and cut to half. Create has an image without that file. A 400K disk is wrapped too.
 fn calls_on(image: &[u8]) -> Vec<Measured> {
     let files = u64::from(get2(image, 1036));
     let last = baseline::entry(image, files - 1).expect("an accepted volume with a file");
@@ -113,21 +132,38 @@ fn calls_on(image: &[u8]) -> Vec<Measured> {
     baseline::cut(&mut emptied, &name, Fork::Data, 0, 0).expect("the last file is there");
     let (named, half, last_block) = (|| name.clone(), u64::from(logical / 2), u64::from(blocks) - 1);
     let write = Call::Write(named(), 0, 0, bytes, 3);
-    vec![
+    let read = Call::Read(named(), 0, 0, logical as usize);
+    let mut calls = vec![
         Measured::new("check", image, Call::Check),
         Measured::new("entry", image, Call::Entry(files - 1)),
         Measured::new("find", image, Call::Find(named())),
         Measured::new("block", image, Call::Block(named(), 0, last_block)),
-        Measured::new("read", image, Call::Read(named(), 0, 0, logical as usize)),
+        Measured::new("read", image, read.clone()),
         Measured::new(
             "create",
             &without_last,
             Call::Create(Bytes(b"NEW 1".to_vec()), [7; 16], 1, 2),
         ),
         Measured::new("write", image, write.clone()),
-        Measured::new("write new", &emptied, write),
+        Measured::new("write new", &emptied, write.clone()),
         Measured::new("cut", image, Call::Cut(named(), 0, half, 3)),
         Measured::new("delete", image, Call::Delete(named())),
+    ];
+    if image.len() == DATA {
+        calls.extend(wrapped_calls(image, read, write));
+    }
+    calls
+}
+
+/// Calls on the wrapped file of a 400K disk without tags, and the wrap that makes it.
+fn wrapped_calls(image: &[u8], read: Call, write: Call) -> [Measured; 4] {
+    let file = images::wrapped(image, &[0; 64], 0x02, &[]);
+    let wrap = Call::Wrap(Bytes(b"WATER".to_vec()), 0x02, HEADER + DATA);
+    [
+        Measured::wrapped("wrapped check", &file, Call::Check),
+        Measured::wrapped("wrapped read", &file, read),
+        Measured::wrapped("wrapped write", &file, write),
+        Measured::new("wrap", image, wrap),
     ]
 }
 

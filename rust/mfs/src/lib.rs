@@ -1,16 +1,16 @@
 //! MFS volumes, the first Macintosh file system, by the proved calls.
 //!
-//! An image is a run of bytes. [`Volume`] has the calls of document 01, each on the image that it is given; what
-//! they answer and what they leave in the image is proved, this library over them is tested. Names are bytes in
-//! Mac OS Roman, compared without the case of a to z. Dates are seconds since 1 January 1904 by the clock of whoever
-//! wrote them.
+//! A file is a run of bytes: an image, or an image wrapped as a Disk Copy 4.2 file. [`Volume`] says which, and has the
+//! calls of document 01, each on the file that it is given; what they answer and what they leave in the file is
+//! proved, this library over them is tested. Names are bytes in Mac OS Roman, compared without the case of a to z.
+//! Dates are seconds since 1 January 1904 by the clock of whoever wrote them.
 //!
 //! ```
 //! use mfs::{Fork, Refusal, Volume};
 //!
-//! fn first_bytes(image: &[u8], name: &[u8]) -> Result<Vec<u8>, Refusal> {
+//! fn first_bytes(file: &[u8], name: &[u8]) -> Result<Vec<u8>, Refusal> {
 //!     let mut buffer = [0; 16];
-//!     let count = Volume::read(image, name, Fork::Data, 0, &mut buffer)?;
+//!     let count = Volume::of(file).read(file, name, Fork::Data, 0, &mut buffer)?;
 //!     Ok(buffer.into_iter().take(count).collect())
 //! }
 //!
@@ -20,10 +20,12 @@
 #[allow(unsafe_code)]
 mod ffi;
 mod refusal;
+mod wrapped;
 
 use std::ops::RangeInclusive;
 
 pub use refusal::Refusal;
+pub use wrapped::{unwrap, wrap, Header};
 
 /// Which fork of a file.
 #[derive(Clone, Copy, Debug, PartialEq, Eq, Hash)]
@@ -128,88 +130,103 @@ impl Entry {
     }
 }
 
-/// The calls, and what is made of them alone. Each call checks the whole volume first.
-pub enum Volume {}
+/// How a volume stands in a file. Its methods are the calls, and what is made of them alone. Each call checks the whole
+/// file first.
+#[derive(Clone, Copy, Debug, PartialEq, Eq, Hash)]
+pub enum Volume {
+    /// The file is the image.
+    Bare,
+    /// The file is a Disk Copy 4.2 file, and the image is inside.
+    Wrapped,
+}
 
 impl Volume {
     /// Checks the volume and gives its facts.
-    pub fn check(image: &[u8]) -> Result<Facts, Refusal> {
-        let answer = ffi::check(image);
+    pub fn check(self, file: &[u8]) -> Result<Facts, Refusal> {
+        let answer = ffi::check(self, file);
         Refusal::of(answer.number)?;
         Ok(answer.facts.into())
     }
 
     /// The entry at a place in directory order.
-    pub fn entry(image: &[u8], place: u64) -> Result<Entry, Refusal> {
-        let answer = ffi::entry(image, place);
+    pub fn entry(self, file: &[u8], place: u64) -> Result<Entry, Refusal> {
+        let answer = ffi::entry(self, file, place);
         Refusal::of(answer.number)?;
         Ok(answer.entry.into())
     }
 
     /// Every entry in directory order.
-    pub fn entries(image: &[u8]) -> Result<Vec<Entry>, Refusal> {
-        let facts = Volume::check(image)?;
+    pub fn entries(self, file: &[u8]) -> Result<Vec<Entry>, Refusal> {
+        let facts = self.check(file)?;
         (0..u64::from(facts.files))
-            .map(|place| Volume::entry(image, place))
+            .map(|place| self.entry(file, place))
             .collect()
     }
 
     /// The place and the entry of a name.
-    pub fn find(image: &[u8], name: &[u8]) -> Result<(u64, Entry), Refusal> {
-        let answer = ffi::find(image, name);
+    pub fn find(self, file: &[u8], name: &[u8]) -> Result<(u64, Entry), Refusal> {
+        let answer = ffi::find(self, file, name);
         Refusal::of(answer.number)?;
         Ok((answer.place, answer.entry.into()))
     }
 
     /// The allocation block at a place in a fork.
-    pub fn block(image: &[u8], name: &[u8], fork: Fork, place: u64) -> Result<u16, Refusal> {
-        let answer = ffi::block(image, name, fork, place);
+    pub fn block(self, file: &[u8], name: &[u8], fork: Fork, place: u64) -> Result<u16, Refusal> {
+        let answer = ffi::block(self, file, name, fork, place);
         Refusal::of(answer.number)?;
         Ok(answer.block)
     }
 
     /// Copies a fork's bytes from an offset on into the buffer, as many as there are and as it holds, and gives their
     /// count. The buffer's rest stays.
-    pub fn read(image: &[u8], name: &[u8], fork: Fork, offset: u64, buffer: &mut [u8]) -> Result<usize, Refusal> {
-        let answer = ffi::read(image, name, fork, offset, buffer);
+    pub fn read(self, file: &[u8], name: &[u8], fork: Fork, offset: u64, buffer: &mut [u8]) -> Result<usize, Refusal> {
+        let answer = ffi::read(self, file, name, fork, offset, buffer);
         Refusal::of(answer.number)?;
         Ok(answer.count)
     }
 
     /// All bytes of a fork.
-    pub fn read_all(image: &[u8], name: &[u8], fork: Fork) -> Result<Vec<u8>, Refusal> {
-        let (_, entry) = Volume::find(image, name)?;
+    pub fn read_all(self, file: &[u8], name: &[u8], fork: Fork) -> Result<Vec<u8>, Refusal> {
+        let (_, entry) = self.find(file, name)?;
         let mut bytes = vec![0; entry.fork(fork).logical as usize];
-        let count = Volume::read(image, name, fork, 0, &mut bytes)?;
+        let count = self.read(file, name, fork, 0, &mut bytes)?;
         bytes.truncate(count);
         Ok(bytes)
     }
 
-    /// Makes an empty file, whose name has at most 31 bytes: 21 refuses a longer one.
-    pub fn create(image: &mut [u8], name: &[u8], finder: &[u8; 16], created: u32, changed: u32) -> Result<(), Refusal> {
-        Refusal::of(ffi::create(image, name, finder, created, changed))
+    /// Makes an empty file on the volume. Its name has at most 31 bytes: 21 refuses a longer one.
+    pub fn create(
+        self,
+        file: &mut [u8],
+        name: &[u8],
+        finder: &[u8; 16],
+        created: u32,
+        changed: u32,
+    ) -> Result<(), Refusal> {
+        Refusal::of(ffi::create(self, file, name, finder, created, changed))
     }
 
     /// Stores bytes in a fork from an offset on; the fork grows where they reach beyond its end.
     pub fn write(
-        image: &mut [u8],
+        self,
+        file: &mut [u8],
         name: &[u8],
         fork: Fork,
         offset: u64,
         bytes: &[u8],
         changed: u32,
     ) -> Result<(), Refusal> {
-        Refusal::of(ffi::write(image, name, fork, offset, bytes, changed))
+        Refusal::of(ffi::write(self, file, name, fork, offset, bytes, changed))
     }
 
     /// Cuts a fork to its first bytes.
-    pub fn cut(image: &mut [u8], name: &[u8], fork: Fork, size: u64, changed: u32) -> Result<(), Refusal> {
-        Refusal::of(ffi::cut(image, name, fork, size, changed))
+    pub fn cut(self, file: &mut [u8], name: &[u8], fork: Fork, size: u64, changed: u32) -> Result<(), Refusal> {
+        Refusal::of(ffi::cut(self, file, name, fork, size, changed))
     }
 
-    /// Deletes a file.
-    pub fn delete(image: &mut [u8], name: &[u8]) -> Result<(), Refusal> {
-        Refusal::of(ffi::delete(image, name))
+    /// Deletes a file of the volume.
+    pub fn delete(self, file: &mut [u8], name: &[u8]) -> Result<(), Refusal> {
+        Refusal::of(ffi::delete(self, file, name))
     }
 }
 

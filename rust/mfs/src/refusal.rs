@@ -49,6 +49,12 @@ impl Refusal {
             18 => "no directory block has room for the entry",
             19 => "the next file number is 4,294,967,295",
             21 => "the given name is longer than 31, and no new file may have such a name",
+            22 => {
+                "the file's length or header is unlike that of a wrapped 400K disk; in wrapping, the image is not 409,600 \
+                 bytes long or the name is longer than 63"
+            }
+            23 => "the data checksum in the file's header is not that of the data",
+            24 => "the tag checksum in the file's header is not that of the tags, or not 0 without tags",
             _ => "a number that has no words here",
         }
     }
@@ -70,9 +76,9 @@ mod tests {
     #[test]
     fn each_number_has_words_of_its_own() {
         let words = |number| Refusal { number }.words();
-        let known: HashSet<_> = (1..=19).chain([21]).map(words).collect();
-        assert_eq!(known.len(), 20);
-        for number in [0, 20, 22, 255] {
+        let known: HashSet<_> = (1..=19).chain(21..=24).map(words).collect();
+        assert_eq!(known.len(), 23);
+        for number in [0, 20, 25, 255] {
             assert!(!known.contains(words(number)), "{number}");
         }
     }

@@ -26,7 +26,7 @@ fn hall_with(name: &[u8]) -> Vec<u8> {
 
 fn blocks(image: &[u8], name: &[u8]) -> Vec<u16> {
     (0..)
-        .map_while(|place| Volume::block(image, name, Fork::Data, place).ok())
+        .map_while(|place| Volume::Bare.block(image, name, Fork::Data, place).ok())
         .collect()
 }
 
@@ -41,7 +41,7 @@ fn refused(change: impl FnOnce(&mut [u8]) -> Result<(), Refusal>) -> u8 {
 #[test]
 fn facts_and_entries() {
     let image = hall();
-    let facts = Volume::check(&image).unwrap();
+    let facts = Volume::Bare.check(&image).unwrap();
     assert_eq!((facts.signature, facts.name.as_slice()), (0xD2D7, &b"HALL"[..]));
     assert_eq!((facts.files, facts.free_blocks, facts.allocation_blocks), (2, 2, 5));
     assert_eq!(
@@ -50,7 +50,7 @@ fn facts_and_entries() {
     );
     assert_eq!((facts.block_size, facts.next_number, facts.blocks()), (512, 3, 2..=6));
     assert!(!facts.is_locked());
-    let entries = Volume::entries(&image).unwrap();
+    let entries = Volume::Bare.entries(&image).unwrap();
     let seen: Vec<_> = entries
         .iter()
         .map(|e| (e.number, e.data.logical, e.resource.logical, &e.name[..]))
@@ -61,33 +61,40 @@ fn facts_and_entries() {
         (entries[1].flags, entries[1].is_locked(), entries[1].finder),
         (0x80, false, [0; 16])
     );
-    assert_eq!(Volume::entry(&image, 2).map_err(Refusal::number), Err(13));
-    assert_eq!(Volume::entry(&image, u64::MAX).map_err(Refusal::number), Err(13));
+    assert_eq!(Volume::Bare.entry(&image, 2).map_err(Refusal::number), Err(13));
+    assert_eq!(Volume::Bare.entry(&image, u64::MAX).map_err(Refusal::number), Err(13));
 }
 
 #[test]
 fn find_block_and_read() {
     let image = hall();
-    let (place, entry) = Volume::find(&image, b"rates").unwrap();
+    let (place, entry) = Volume::Bare.find(&image, b"rates").unwrap();
     assert_eq!((place, entry.name.as_slice()), (1, &b"RATES"[..]));
     assert_eq!(
         (blocks(&image, b"week1"), blocks(&image, b"RATES")),
         (vec![2, 4], vec![3])
     );
     let mut buffer = [9; 800];
-    assert_eq!(Volume::read(&image, b"WEEK1", Fork::Data, 1, &mut buffer), Ok(699));
+    assert_eq!(Volume::Bare.read(&image, b"WEEK1", Fork::Data, 1, &mut buffer), Ok(699));
     assert_eq!(buffer[699..], [9; 101]);
-    assert_eq!(Volume::read(&image, b"WEEK1", Fork::Data, 700, &mut []), Ok(0));
+    assert_eq!(Volume::Bare.read(&image, b"WEEK1", Fork::Data, 700, &mut []), Ok(0));
     assert_eq!(
-        Volume::read(&image, b"WEEK1", Fork::Resource, 1, &mut buffer).map_err(Refusal::number),
+        Volume::Bare
+            .read(&image, b"WEEK1", Fork::Resource, 1, &mut buffer)
+            .map_err(Refusal::number),
         Err(16)
     );
     assert_eq!(
-        Volume::read_all(&image, b"WEEK1", Fork::Data).map(|bytes| bytes.len()),
+        Volume::Bare
+            .read_all(&image, b"WEEK1", Fork::Data)
+            .map(|bytes| bytes.len()),
         Ok(700)
     );
     for (name, number) in [(&b""[..], 12), (&[b'x'; 256], 12), (&[b'x'; 255], 13), (b"WEEK", 13)] {
-        assert_eq!(Volume::find(&image, name).map_err(Refusal::number).err(), Some(number));
+        assert_eq!(
+            Volume::Bare.find(&image, name).map_err(Refusal::number).err(),
+            Some(number)
+        );
     }
 }
 
@@ -95,25 +102,35 @@ fn find_block_and_read() {
 fn writes() {
     let mut image = hall();
     let bytes: Vec<u8> = (0..400).map(|i| i as u8).collect();
-    Volume::write(&mut image, b"WEEK1", Fork::Data, 700, &bytes, DATE).unwrap();
+    Volume::Bare
+        .write(&mut image, b"WEEK1", Fork::Data, 700, &bytes, DATE)
+        .unwrap();
     assert_eq!(blocks(&image, b"WEEK1"), [2, 4, 5]);
-    let (_, week) = Volume::find(&image, b"WEEK1").unwrap();
+    let (_, week) = Volume::Bare.find(&image, b"WEEK1").unwrap();
     let wanted = ForkFacts {
         start: 2,
         logical: 1100,
         physical: 1536,
     };
     assert_eq!((week.fork(Fork::Data), week.changed), (wanted, DATE));
-    assert_eq!(Volume::read_all(&image, b"WEEK1", Fork::Data).unwrap()[700..], bytes);
-    Volume::write(&mut image, b"RATES", Fork::Resource, 0, &[7; 512], DATE).unwrap();
-    assert_eq!(Volume::read_all(&image, b"RATES", Fork::Resource).unwrap(), [7; 512]);
-    assert_eq!(Volume::check(&image).unwrap().free_blocks, 0);
     assert_eq!(
-        refused(|image| Volume::write(image, b"WEEK1", Fork::Data, 700, &[1; 1349], DATE)),
+        Volume::Bare.read_all(&image, b"WEEK1", Fork::Data).unwrap()[700..],
+        bytes
+    );
+    Volume::Bare
+        .write(&mut image, b"RATES", Fork::Resource, 0, &[7; 512], DATE)
+        .unwrap();
+    assert_eq!(
+        Volume::Bare.read_all(&image, b"RATES", Fork::Resource).unwrap(),
+        [7; 512]
+    );
+    assert_eq!(Volume::Bare.check(&image).unwrap().free_blocks, 0);
+    assert_eq!(
+        refused(|image| Volume::Bare.write(image, b"WEEK1", Fork::Data, 700, &[1; 1349], DATE)),
         17
     );
     assert_eq!(
-        refused(|image| Volume::write(image, b"WEEK1", Fork::Data, 701, &[], DATE)),
+        refused(|image| Volume::Bare.write(image, b"WEEK1", Fork::Data, 701, &[], DATE)),
         16
     );
 }
@@ -121,34 +138,45 @@ fn writes() {
 #[test]
 fn cuts_and_deletes() {
     let mut image = hall();
-    Volume::cut(&mut image, b"WEEK1", Fork::Data, 512, DATE).unwrap();
+    Volume::Bare.cut(&mut image, b"WEEK1", Fork::Data, 512, DATE).unwrap();
     assert_eq!(
-        (blocks(&image, b"WEEK1"), Volume::check(&image).unwrap().free_blocks),
+        (
+            blocks(&image, b"WEEK1"),
+            Volume::Bare.check(&image).unwrap().free_blocks
+        ),
         (vec![2], 3)
     );
-    assert_eq!(refused(|image| Volume::cut(image, b"WEEK1", Fork::Data, 701, DATE)), 16);
-    Volume::delete(&mut image, b"rates").unwrap();
-    assert_eq!(Volume::entries(&image).unwrap().len(), 1);
-    assert_eq!(refused(|image| Volume::delete(image, b"none")), 13);
+    assert_eq!(
+        refused(|image| Volume::Bare.cut(image, b"WEEK1", Fork::Data, 701, DATE)),
+        16
+    );
+    Volume::Bare.delete(&mut image, b"rates").unwrap();
+    assert_eq!(Volume::Bare.entries(&image).unwrap().len(), 1);
+    assert_eq!(refused(|image| Volume::Bare.delete(image, b"none")), 13);
 }
 
 #[test]
 fn creates() {
     let mut image = hall();
-    Volume::create(&mut image, b"Tarif \x8E", &[5; 16], 8, 9).unwrap();
-    let entry = Volume::entry(&image, 2).unwrap();
+    Volume::Bare.create(&mut image, b"Tarif \x8E", &[5; 16], 8, 9).unwrap();
+    let entry = Volume::Bare.entry(&image, 2).unwrap();
     assert_eq!(
         (entry.number, entry.name.as_slice(), entry.finder),
         (3, &b"Tarif \x8E"[..], [5; 16])
     );
     assert_eq!((entry.created, entry.changed, entry.flags), (8, 9, 0x80));
-    assert_eq!(refused(|image| Volume::create(image, b"week1", &[0; 16], 1, 2)), 14);
+    assert_eq!(
+        refused(|image| Volume::Bare.create(image, b"week1", &[0; 16], 1, 2)),
+        14
+    );
     let mut locked = hall();
     locked[1034] = 0x80;
-    assert!(Volume::check(&locked).unwrap().is_locked());
+    assert!(Volume::Bare.check(&locked).unwrap().is_locked());
     for length in [0, 32, 256] {
         assert_eq!(
-            Volume::create(&mut locked, &vec![b'n'; length], &[0; 16], 1, 2).map_err(Refusal::number),
+            Volume::Bare
+                .create(&mut locked, &vec![b'n'; length], &[0; 16], 1, 2)
+                .map_err(Refusal::number),
             Err(11)
         );
     }
@@ -157,11 +185,14 @@ fn creates() {
 #[test]
 fn new_names() {
     let mut image = hall();
-    Volume::create(&mut image, &[b'n'; 31], &[0; 16], 0, 0).unwrap();
+    Volume::Bare.create(&mut image, &[b'n'; 31], &[0; 16], 0, 0).unwrap();
     assert_eq!(image, hall_with(&[b'n'; 31]));
     for (length, number) in [(0, 12), (32, 21), (33, 21), (254, 21), (255, 21), (256, 12)] {
         let name = vec![b'n'; length];
-        assert_eq!(refused(|image| Volume::create(image, &name, &[0; 16], 1, 2)), number);
+        assert_eq!(
+            refused(|image| Volume::Bare.create(image, &name, &[0; 16], 1, 2)),
+            number
+        );
     }
 }
 
@@ -171,20 +202,27 @@ fn old_names() {
         let name = vec![b'n'; length];
         let mut image = hall_with(&name);
         assert_eq!(
-            Volume::create(&mut image, &name, &[0; 16], 1, 2).map_err(Refusal::number),
+            Volume::Bare
+                .create(&mut image, &name, &[0; 16], 1, 2)
+                .map_err(Refusal::number),
             Err(21)
         );
         assert_eq!(image, hall_with(&name));
-        assert_eq!(Volume::entry(&image, 2).unwrap().name, name);
-        assert_eq!(Volume::find(&image, &name.to_ascii_uppercase()).unwrap().0, 2);
-        Volume::write(&mut image, &name, Fork::Data, 0, &[7; 600], DATE).unwrap();
-        assert_eq!(Volume::read_all(&image, &name, Fork::Data).unwrap(), [7; 600]);
+        assert_eq!(Volume::Bare.entry(&image, 2).unwrap().name, name);
+        assert_eq!(Volume::Bare.find(&image, &name.to_ascii_uppercase()).unwrap().0, 2);
+        Volume::Bare
+            .write(&mut image, &name, Fork::Data, 0, &[7; 600], DATE)
+            .unwrap();
+        assert_eq!(Volume::Bare.read_all(&image, &name, Fork::Data).unwrap(), [7; 600]);
         assert_eq!(blocks(&image, &name), [5, 6]);
-        Volume::cut(&mut image, &name, Fork::Data, 512, DATE).unwrap();
+        Volume::Bare.cut(&mut image, &name, Fork::Data, 512, DATE).unwrap();
         assert_eq!(blocks(&image, &name), [5]);
-        Volume::delete(&mut image, &name).unwrap();
-        assert_eq!(Volume::find(&image, &name).map_err(Refusal::number).err(), Some(13));
-        assert_eq!(Volume::entries(&image).unwrap().len(), 2);
+        Volume::Bare.delete(&mut image, &name).unwrap();
+        assert_eq!(
+            Volume::Bare.find(&image, &name).map_err(Refusal::number).err(),
+            Some(13)
+        );
+        assert_eq!(Volume::Bare.entries(&image).unwrap().len(), 2);
     }
 }
 
@@ -192,18 +230,21 @@ fn old_names() {
 fn lengths_of_the_image() {
     for length in [0, 1, 511, 512, 3584, 4095, 6143, 65_536 * 512] {
         let mut image = vec![0; length];
-        assert_eq!(Volume::check(&image).map_err(Refusal::number), Err(1));
-        assert_eq!(Volume::delete(&mut image, b"WEEK1").map_err(Refusal::number), Err(1));
+        assert_eq!(Volume::Bare.check(&image).map_err(Refusal::number), Err(1));
+        assert_eq!(
+            Volume::Bare.delete(&mut image, b"WEEK1").map_err(Refusal::number),
+            Err(1)
+        );
     }
-    assert_eq!(Volume::check(&[0; 4096]).map_err(Refusal::number), Err(2));
+    assert_eq!(Volume::Bare.check(&[0; 4096]).map_err(Refusal::number), Err(2));
 }
 
 #[test]
 fn words() {
-    let refusal = Volume::check(&[]).expect_err("a refusal");
+    let refusal = Volume::Bare.check(&[]).expect_err("a refusal");
     let text = refusal.to_string();
     assert!(text.starts_with("refused 1: the length"), "{text}");
     let mut image = hall();
     image[1059] = 3;
-    assert_eq!(Volume::check(&image).map_err(Refusal::number), Err(10));
+    assert_eq!(Volume::Bare.check(&image).map_err(Refusal::number), Err(10));
 }

@@ -3,20 +3,27 @@
 use std::ffi::{OsStr, OsString};
 use std::os::unix::ffi::OsStrExt;
 
-use mfs::Fork;
+use mfs::{Fork, Volume};
 
 use crate::names;
 
 /// The options, and whether each has a value.
-const OPTIONS: [(&str, bool); 7] = [
+const OPTIONS: [(&str, bool); 11] = [
     ("-r", false),
     ("-l", false),
     ("--json", false),
+    ("--wrapped", false),
+    ("--bare", false),
     ("--as", true),
     ("--type", true),
     ("--creator", true),
     ("--date", true),
+    ("--name", true),
+    ("--format", true),
 ];
+
+/// Options that don't go together.
+const APART: [(&str, &str); 2] = [("-l", "--json"), ("--wrapped", "--bare")];
 
 /// The options and operands behind a verb.
 pub struct Arguments {
@@ -45,7 +52,13 @@ impl Arguments {
                 arguments.operands.push(word.clone());
             }
         }
-        Ok(arguments)
+        match APART
+            .iter()
+            .find(|(one, other)| arguments.has(one) && arguments.has(other))
+        {
+            Some((one, other)) => Err(format!("{one} and {other} don't go together")),
+            None => Ok(arguments),
+        }
     }
 
     /// The value of an option, if it is given.
@@ -65,6 +78,17 @@ impl Arguments {
             Fork::Resource
         } else {
             Fork::Data
+        }
+    }
+
+    /// How the volume stands in a file: as `--wrapped` or `--bare` says, else as the file's header does.
+    pub fn volume(&self, file: &[u8]) -> Volume {
+        if self.has("--wrapped") {
+            Volume::Wrapped
+        } else if self.has("--bare") {
+            Volume::Bare
+        } else {
+            Volume::of(file)
         }
     }
 
@@ -113,7 +137,7 @@ mod tests {
 
     fn parse(words: &[&str]) -> Result<Arguments, String> {
         let words: Vec<OsString> = words.iter().map(OsString::from).collect();
-        Arguments::parse(&words, &["-r", "--as", "--date"])
+        Arguments::parse(&words, &["-r", "--as", "--date", "--wrapped", "--bare"])
     }
 
     #[test]
@@ -129,6 +153,17 @@ mod tests {
     }
 
     #[test]
+    fn bare_or_wrapped() {
+        for (words, volume) in [
+            (&["a"][..], Volume::Bare),
+            (&["a", "--bare"], Volume::Bare),
+            (&["--wrapped", "a"], Volume::Wrapped),
+        ] {
+            assert_eq!(parse(words).unwrap().volume(&[0; 409_684]), volume);
+        }
+    }
+
+    #[test]
     fn bad_options() {
         for words in [
             &["-x"][..],
@@ -141,6 +176,8 @@ mod tests {
             &["--as", "a", "--as=b"],
             &["--dat", "now"],
             &["-5"],
+            &["--wrapped", "--bare"],
+            &["--wrapped=1"],
         ] {
             assert!(parse(words).is_err(), "{words:?}");
         }

@@ -1,6 +1,6 @@
-//! How facts and entries are shown: document 01's listing, tables for people, JSON.
+//! How facts, entries and a wrapped file's header are shown: document 01's listing, tables for people, JSON.
 
-use mfs::{Entry, Facts, ForkFacts};
+use mfs::{Entry, Facts, ForkFacts, Header};
 
 use crate::dates;
 use crate::json::Json;
@@ -141,11 +141,35 @@ pub fn facts(facts: &Facts) -> String {
         ("free", free(facts)),
         ("clump size", facts.clump_size.to_string()),
     ];
-    let lines = lines.map(|(label, value)| match value.as_str() {
+    lines.map(labelled).concat()
+}
+
+/// A line with its label.
+fn labelled((label, value): (&str, String)) -> String {
+    match value.as_str() {
         "" => format!("{label}:\n"),
         _ => format!("{:<18} {value}\n", format!("{label}:")),
-    });
-    lines.concat()
+    }
+}
+
+/// A wrapped file's header for people, one fact to a line.
+pub fn header(header: &Header) -> String {
+    let tags = if header.has_tags { "with" } else { "without" };
+    let lines = [
+        ("wrapped", format!("Disk Copy 4.2, {tags} tags")),
+        ("wrapped name", names::shown(&header.name)),
+        ("format byte", format!("{:02X} hex", header.format)),
+    ];
+    lines.map(labelled).concat()
+}
+
+/// A wrapped file's header as JSON.
+pub fn header_json(header: &Header) -> Json {
+    Json::Object(vec![
+        ("name", name_json(&header.name)),
+        ("format", Json::number(header.format)),
+        ("tags", Json::Bool(header.has_tags)),
+    ])
 }
 
 /// The facts as JSON.

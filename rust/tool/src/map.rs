@@ -19,23 +19,23 @@ struct Owner {
 }
 
 /// The picture and its legend.
-pub fn picture(image: &[u8]) -> Result<String, Refusal> {
-    let facts = Volume::check(image)?;
+pub fn picture(volume: Volume, file: &[u8]) -> Result<String, Refusal> {
+    let facts = volume.check(file)?;
     let mut owners = Vec::new();
-    for entry in Volume::entries(image)? {
+    for entry in volume.entries(file)? {
         for fork in [Fork::Data, Fork::Resource] {
-            owners.extend(owner(image, &entry, fork));
+            owners.extend(owner(volume, file, &entry, fork));
         }
     }
     Ok(rows(&facts, &owners) + "\n" + &legend(&facts, &owners))
 }
 
 /// The fork as an owner of blocks, if it has any.
-fn owner(image: &[u8], entry: &Entry, fork: Fork) -> Option<Owner> {
+fn owner(volume: Volume, file: &[u8], entry: &Entry, fork: Fork) -> Option<Owner> {
     if entry.fork(fork).physical == 0 {
         return None;
     }
-    let block = |place| Volume::block(image, &entry.name, fork, place).ok();
+    let block = |place| volume.block(file, &entry.name, fork, place).ok();
     Some(Owner {
         name: names::shown(&entry.name),
         fork,

@@ -1,7 +1,7 @@
 //! Document 01's calls on an MFS volume, as document 02 changes them, in safe Rust.
 //!
 //! The image is one slice. Every call checks it whole (checks 1 to 10), then runs the checks of its own in the order
-//! of the documents, and only then changes a byte.
+//! of the documents, and only then changes a byte. `Form` leads from a wrapped file to the image inside.
 
 mod checks;
 mod directory;
@@ -9,6 +9,7 @@ mod layout;
 mod map;
 mod types;
 mod volume;
+mod wrapped;
 
 #[cfg(test)]
 mod tests;
@@ -18,7 +19,8 @@ use layout::*;
 use map::put_map_entry;
 use volume::Volume;
 
-pub use types::{Entry, Facts, Fork, ForkFacts, Refusal};
+pub use types::{Entry, Facts, Fork, ForkFacts, Form, Refusal};
+pub use wrapped::wrap;
 
 /// Checks 1 to 10, and the volume's facts.
 pub fn check(image: &[u8]) -> Result<Facts, Refusal> {

@@ -26,6 +26,9 @@ pub enum Refusal {
     DirectoryFull = 18,
     NumbersUsedUp = 19,
     NameTooLong = 21,
+    Container = 22,
+    DataChecksum = 23,
+    TagChecksum = 24,
 }
 
 impl Refusal {
@@ -58,6 +61,15 @@ impl Fork {
             Fork::Resource => entry_at::RESOURCE,
         }
     }
+}
+
+/// How an image is given to a call.
+#[derive(Clone, Copy, Debug, PartialEq, Eq)]
+pub enum Form {
+    /// By itself.
+    Bare,
+    /// In a wrapped file.
+    Wrapped,
 }
 
 /// The volume information.

@@ -1,6 +1,6 @@
 //! What a call gives back, in the archive's form: by the archive, and by the baseline brought to that form.
 
-use crate::baseline::{self, Fork, Refusal};
+use crate::baseline::{self, Fork, Form, Refusal};
 use crate::call::Call;
 use crate::foreign::{self, BlockAnswer, CheckAnswer, EntryAnswer, FindAnswer, ReadAnswer};
 
@@ -27,57 +27,59 @@ impl Answer {
     }
 }
 
-pub fn by_archive(call: &Call, image: &mut [u8], buffer: &mut [u8]) -> Answer {
+pub fn by_archive(call: &Call, form: Form, file: &mut [u8], buffer: &mut [u8]) -> Answer {
     match call {
-        Call::Check => Answer::Check(foreign::check(image)),
-        Call::Entry(place) => Answer::Entry(foreign::entry(image, *place)),
-        Call::Find(name) => Answer::Find(foreign::find(image, name)),
-        Call::Block(name, fork, place) => Answer::Block(foreign::block(image, name, *fork, *place)),
-        Call::Read(name, fork, offset, _) => Answer::Read(foreign::read(image, name, *fork, *offset, buffer)),
+        Call::Check => Answer::Check(foreign::check(form, file)),
+        Call::Entry(place) => Answer::Entry(foreign::entry(form, file, *place)),
+        Call::Find(name) => Answer::Find(foreign::find(form, file, name)),
+        Call::Block(name, fork, place) => Answer::Block(foreign::block(form, file, name, *fork, *place)),
+        Call::Read(name, fork, offset, _) => Answer::Read(foreign::read(form, file, name, *fork, *offset, buffer)),
         Call::Create(name, finder, created, changed) => {
-            Answer::Change(foreign::create(image, name, finder, *created, *changed))
+            Answer::Change(foreign::create(form, file, name, finder, *created, *changed))
         }
         Call::Write(name, fork, offset, bytes, changed) => {
-            Answer::Change(foreign::write(image, name, *fork, *offset, bytes, *changed))
+            Answer::Change(foreign::write(form, file, name, *fork, *offset, bytes, *changed))
         }
-        Call::Cut(name, fork, size, changed) => Answer::Change(foreign::cut(image, name, *fork, *size, *changed)),
-        Call::Delete(name) => Answer::Change(foreign::delete(image, name)),
+        Call::Cut(name, fork, size, changed) => Answer::Change(foreign::cut(form, file, name, *fork, *size, *changed)),
+        Call::Delete(name) => Answer::Change(foreign::delete(form, file, name)),
+        Call::Wrap(name, format, _) => Answer::Change(foreign::wrap(file, name, *format, buffer)),
     }
 }
 
-pub fn by_baseline(call: &Call, image: &mut [u8], buffer: &mut [u8]) -> Answer {
+pub fn by_baseline(call: &Call, form: Form, file: &mut [u8], buffer: &mut [u8]) -> Answer {
     match call {
         Call::Check => {
-            let (number, facts) = parts(baseline::check(image).map(facts), foreign::Facts::default());
+            let told = form.image(file).and_then(baseline::check);
+            let (number, facts) = parts(told.map(facts), foreign::Facts::default());
             Answer::Check(CheckAnswer { number, facts })
         }
         Call::Entry(place) => {
-            let (number, entry) = parts(baseline::entry(image, *place).map(entry), NO_ENTRY);
+            let told = form.image(file).and_then(|image| baseline::entry(image, *place));
+            let (number, entry) = parts(told.map(entry), NO_ENTRY);
             Answer::Entry(EntryAnswer { number, entry })
         }
         Call::Find(name) => {
-            let found = baseline::find(image, name).map(|(place, found)| (place, entry(found)));
+            let found = form.image(file).and_then(|image| baseline::find(image, name));
+            let found = found.map(|(place, found)| (place, entry(found)));
             let (number, (place, entry)) = parts(found, (0, NO_ENTRY));
             Answer::Find(FindAnswer { number, place, entry })
         }
         Call::Block(name, fork, place) => {
-            let (number, block) = parts(baseline::block(image, name, Fork::of(*fork), *place), 0);
+            let told = form.image(file);
+            let told = told.and_then(|image| baseline::block(image, name, Fork::of(*fork), *place));
+            let (number, block) = parts(told, 0);
             Answer::Block(BlockAnswer { number, block })
         }
         Call::Read(name, fork, offset, _) => {
-            let (number, count) = parts(baseline::read(image, name, Fork::of(*fork), *offset, buffer), 0);
+            let read = form.image(file);
+            let read = read.and_then(|image| baseline::read(image, name, Fork::of(*fork), *offset, buffer));
+            let (number, count) = parts(read, 0);
             Answer::Read(ReadAnswer { number, count })
         }
-        Call::Create(name, finder, created, changed) => {
-            changed_by(baseline::create(image, name, finder, *created, *changed))
+        Call::Create(..) | Call::Write(..) | Call::Cut(..) | Call::Delete(..) => {
+            changed_by(form.change(file, |image| call.change(image)))
         }
-        Call::Write(name, fork, offset, bytes, changed) => {
-            changed_by(baseline::write(image, name, Fork::of(*fork), *offset, bytes, *changed))
-        }
-        Call::Cut(name, fork, size, changed) => {
-            changed_by(baseline::cut(image, name, Fork::of(*fork), *size, *changed))
-        }
-        Call::Delete(name) => changed_by(baseline::delete(image, name)),
+        Call::Wrap(name, format, _) => changed_by(baseline::wrap(file, name, *format, buffer)),
     }
 }
 

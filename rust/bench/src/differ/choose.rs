@@ -2,7 +2,7 @@
 
 use crate::baseline::{self, Entry, Facts, ForkFacts};
 use crate::call::{Bytes, Call};
-use crate::images::get2;
+use crate::images::{get2, DATA, HEADER, TAGS};
 use crate::random::Random;
 use crate::volumes;
 
@@ -46,7 +46,8 @@ pub fn call(random: &mut Random, image: &[u8], kind: usize) -> Call {
             };
             Call::Cut(target.name, target.fork, about(random, near), random.next() as u32)
         }
-        _ => Call::Delete(target.name),
+        8 => Call::Delete(target.name),
+        _ => wrap(random, image.len() == DATA),
     }
 }
 
@@ -203,4 +204,23 @@ fn write(random: &mut Random, target: Target) -> Call {
     };
     let written = Bytes(bytes(random, length.min(MOST)));
     Call::Write(target.name, target.fork, offset, written, random.next() as u32)
+}
+
+/// A wrap with a buffer that fits an image of 400K, or about that; another image has mostly a short one.
+fn wrap(random: &mut Random, fits: bool) -> Call {
+    let length = match random.below(8) {
+        0 => [0, 1, 62, 63, 64, 65, 255, 256][random.index(8)],
+        _ => random.index(64),
+    };
+    let name = Bytes(bytes(random, length));
+    let buffer = if fits || random.once_in(8) {
+        let other = [0, HEADER, HEADER + DATA - 1, HEADER + DATA + 1, HEADER + DATA + TAGS];
+        match random.below(8) {
+            0 => other[random.index(5)],
+            _ => HEADER + DATA,
+        }
+    } else {
+        random.index(100)
+    };
+    Call::Wrap(name, random.byte(), buffer)
 }

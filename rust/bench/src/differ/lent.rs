@@ -3,6 +3,7 @@
 const GUARD: usize = 64;
 const GUARD_BYTE: u8 = 0xC3;
 
+#[derive(Default)]
 pub struct Lent {
     memory: Vec<u8>,
     start: usize,
@@ -10,12 +11,14 @@ pub struct Lent {
 }
 
 impl Lent {
-    pub fn new(bytes: &[u8], shift: usize) -> Lent {
-        let start = GUARD + shift;
-        let length = bytes.len();
-        let mut memory = vec![GUARD_BYTE; start + length + GUARD];
-        memory[start..start + length].copy_from_slice(bytes);
-        Lent { memory, start, length }
+    /// Lends these bytes in the place of those before.
+    pub fn lend(&mut self, bytes: &[u8], shift: usize) {
+        self.start = GUARD + shift;
+        self.length = bytes.len();
+        self.memory.clear();
+        self.memory.resize(self.start, GUARD_BYTE);
+        self.memory.extend_from_slice(bytes);
+        self.memory.resize(self.start + self.length + GUARD, GUARD_BYTE);
     }
 
     pub fn bytes(&self) -> &[u8] {

@@ -1,12 +1,14 @@
-//! Images of volumes, laid out by document 01 without the baseline's code.
+//! Images of volumes, laid out by document 01 without the baseline's code, and wrapped files.
 
 mod crowded;
 mod shapes;
+mod wrapped;
 
 pub use crowded::{crowded, names_at, numbers_at};
 pub use shapes::shapes;
 #[cfg(test)]
 pub use shapes::{hall, one_fork};
+pub use wrapped::{put_checksums, wrapped, DATA, HEADER, TAGS};
 
 /// The volume information that a maker chooses; the counts follow from the files.
 #[derive(Clone, Debug)]

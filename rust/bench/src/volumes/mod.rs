@@ -1,12 +1,14 @@
-//! Volumes of many shapes from a seed.
+//! Volumes of many shapes from a seed, and wrapped files.
 
 mod damage;
+mod wrapped;
 
 use crate::images::{self, build, get2, FileSpec, ForkSpec, Geometry};
 use crate::random::Random;
 use std::collections::HashSet;
 
 pub use damage::damage;
+pub use wrapped::{damage_wrapped, disk_400k, wrap_up};
 
 /// An accepted volume, from tiny to (seldom) the largest.
 pub fn volume(random: &mut Random) -> Vec<u8> {

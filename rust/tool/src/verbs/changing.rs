@@ -17,17 +17,21 @@ use crate::save::Target;
 const NO_DATE: &str = "--date is missing: a disk keeps the dates of the desk's own clock, which nobody but you knows. \
                        Give 'YYYY-MM-DD HH:MM:SS', @N for the stored number, or now for this machine's local clock";
 
-/// Makes calls on a copy of an image, and saves it if they were done.
-fn change(path: &OsStr, calls: impl FnOnce(&mut [u8]) -> Result<(), Failure>) -> Result<(), Failure> {
+/// Makes calls on a copy of an image, bare or wrapped, and saves it if they were done.
+fn change(
+    arguments: &Arguments,
+    path: &OsStr,
+    calls: impl FnOnce(Volume, &mut [u8]) -> Result<(), Failure>,
+) -> Result<(), Failure> {
     let about = |words: String| Failure::about(&names::path(path), words);
     let target = Target::open(path).map_err(about)?;
     let Some(old) = target.old() else {
         return Err(about("there is no such file".to_string()));
     };
     let read = files::contents(old).map_err(|error| about(files::unread(&error)))?;
-    let mut image = read.clone();
-    calls(&mut image)?;
-    target.replace(&image, Some(&read)).map_err(about)
+    let mut file = read.clone();
+    calls(arguments.volume(&read), &mut file)?;
+    target.replace(&file, Some(&read)).map_err(about)
 }
 
 /// The date that `--date` gives.
@@ -43,14 +47,14 @@ pub fn put(arguments: &Arguments, _: &mut Console) -> Result<(), Failure> {
     let name = name_for(arguments, file)?;
     let finder = finder(arguments)?;
     let fork = arguments.fork();
-    change(path, |image| {
+    change(arguments, path, |volume, image| {
         let bytes = files::read_or_input(file)?;
         // where find refuses, create says why
-        let ready = match Volume::find(image, &name) {
-            Ok(_) => Volume::cut(image, &name, fork, 0, date),
-            Err(_) => Volume::create(image, &name, &finder, date, date),
+        let ready = match volume.find(image, &name) {
+            Ok(_) => volume.cut(image, &name, fork, 0, date),
+            Err(_) => volume.create(image, &name, &finder, date, date),
         };
-        let done = ready.and_then(|()| Volume::write(image, &name, fork, 0, &bytes, date));
+        let done = ready.and_then(|()| volume.write(image, &name, fork, 0, &bytes, date));
         done.map_err(refused(path))
     })
 }
@@ -91,12 +95,14 @@ pub fn append(arguments: &Arguments, _: &mut Console) -> Result<(), Failure> {
     let date = date(arguments)?;
     let name = name(arguments.operand(1))?;
     let fork = arguments.fork();
-    change(path, |image| {
+    change(arguments, path, |volume, image| {
         let bytes = files::read_or_input(file)?;
         // where find refuses, write does too, and says why
-        let found = Volume::find(image, &name);
+        let found = volume.find(image, &name);
         let end = found.map_or(0, |(_, entry)| entry.fork(fork).logical);
-        Volume::write(image, &name, fork, end.into(), &bytes, date).map_err(refused(path))
+        volume
+            .write(image, &name, fork, end.into(), &bytes, date)
+            .map_err(refused(path))
     })
 }
 
@@ -106,8 +112,10 @@ pub fn cut(arguments: &Arguments, _: &mut Console) -> Result<(), Failure> {
     let date = date(arguments)?;
     let name = name(arguments.operand(1))?;
     let length = length(arguments.operand(2))?;
-    let cut = |image: &mut [u8]| Volume::cut(image, &name, arguments.fork(), length, date);
-    change(path, |image| cut(image).map_err(refused(path)))
+    let fork = arguments.fork();
+    change(arguments, path, |volume, image| {
+        volume.cut(image, &name, fork, length, date).map_err(refused(path))
+    })
 }
 
 fn length(given: &OsStr) -> Result<u64, Failure> {
@@ -130,10 +138,10 @@ pub fn delete(arguments: &Arguments, console: &mut Console) -> Result<(), Failur
     let given = arguments.operands().get(1..).unwrap_or_default();
     let names: Result<Vec<_>, _> = given.iter().map(|given| name(given)).collect();
     let names = names?;
-    change(path, |image| {
+    change(arguments, path, |volume, image| {
         let mut last = Ok(());
         for name in &names {
-            let Err(refusal) = Volume::delete(image, name) else {
+            let Err(refusal) = volume.delete(image, name) else {
                 continue;
             };
             if let Err(earlier) = &last {

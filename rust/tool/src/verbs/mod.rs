@@ -30,13 +30,13 @@ struct Verb {
 
 const ANY: usize = usize::MAX;
 
-const VERBS: [Verb; 9] = [
+const VERBS: [Verb; 11] = [
     Verb {
         name: "check",
         takes: "[--json] IMAGE..",
         does: "sound, or the refusal",
         more: "",
-        options: &["--json"],
+        options: &["--json", "--wrapped", "--bare"],
         fewest: 1,
         most: ANY,
         run: reading::check,
@@ -50,7 +50,7 @@ Without an option: a line for the volume, then for each file its number, data
 and resource length, dates of creation and change as stored, and name; bytes
 outside 20 to 7E hex are shown as ?. -l is a table for people.
 ",
-        options: &["-l", "--json"],
+        options: &["-l", "--json", "--wrapped", "--bare"],
         fewest: 1,
         most: 1,
         run: reading::list,
@@ -59,8 +59,10 @@ outside 20 to 7E hex are shown as ?. -l is a table for people.
         name: "info",
         takes: "[--json] IMAGE",
         does: "the volume's facts",
-        more: "",
-        options: &["--json"],
+        more: "\
+For a wrapped file also the name, the format byte and whether it has tags.
+",
+        options: &["--json", "--wrapped", "--bare"],
         fewest: 1,
         most: 1,
         run: reading::info,
@@ -73,7 +75,7 @@ outside 20 to 7E hex are shown as ?. -l is a table for people.
 A dot is a free block and a letter a fork's; the legend has each fork with its
 blocks in order. With more than 52 forks the letters come again.
 ",
-        options: &[],
+        options: &["--wrapped", "--bare"],
         fewest: 1,
         most: 1,
         run: reading::map,
@@ -85,7 +87,7 @@ blocks in order. With more than 52 forks the letters come again.
         more: "\
 Without FILE, or for -, they go to standard output.
 ",
-        options: &["-r"],
+        options: &["-r", "--wrapped", "--bare"],
         fewest: 2,
         most: 3,
         run: reading::get,
@@ -99,7 +101,7 @@ Without --as the name is FILE's own. A file that is there keeps its number,
 type, creator and creation date. A new one has a name of at most 31 characters,
 and the type and creator given, ???? for each that is not.
 ",
-        options: &["-r", "--as", "--type", "--creator", "--date"],
+        options: &["-r", "--as", "--type", "--creator", "--date", "--wrapped", "--bare"],
         fewest: 2,
         most: 2,
         run: changing::put,
@@ -109,7 +111,7 @@ and the type and creator given, ???? for each that is not.
         takes: "[-r] --date DATE IMAGE NAME FILE",
         does: "bytes behind the fork's end",
         more: "",
-        options: &["-r", "--date"],
+        options: &["-r", "--date", "--wrapped", "--bare"],
         fewest: 3,
         most: 3,
         run: changing::append,
@@ -119,7 +121,7 @@ and the type and creator given, ???? for each that is not.
         takes: "[-r] --date DATE IMAGE NAME LENGTH",
         does: "the fork's first bytes stay",
         more: "",
-        options: &["-r", "--date"],
+        options: &["-r", "--date", "--wrapped", "--bare"],
         fewest: 3,
         most: 3,
         run: changing::cut,
@@ -129,10 +131,37 @@ and the type and creator given, ???? for each that is not.
         takes: "IMAGE NAME..",
         does: "files taken out; all of them or none",
         more: "",
-        options: &[],
+        options: &["--wrapped", "--bare"],
         fewest: 2,
         most: ANY,
         run: changing::delete,
+    },
+    Verb {
+        name: "wrap",
+        takes: "[--name NAME] [--format BYTE] IMAGE FILE",
+        does: "a Disk Copy 4.2 file of a bare image of 400K",
+        more: "\
+The file has no tags. Its name has at most 63 characters; without --name it is
+the volume's. BYTE is a number from 0 to 255, in decimal or as 0xNN; without
+--format it is 0x02. For - the file goes to standard output.
+",
+        options: &["--name", "--format"],
+        fewest: 2,
+        most: 2,
+        run: reading::wrap,
+    },
+    Verb {
+        name: "unwrap",
+        takes: "FILE IMAGE",
+        does: "the bare image in a Disk Copy 4.2 file",
+        more: "\
+The file's header and tags are left out. For - the image goes to standard
+output.
+",
+        options: &[],
+        fewest: 2,
+        most: 2,
+        run: reading::unwrap,
     },
 ];
 
