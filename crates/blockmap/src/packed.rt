@@ -102,13 +102,14 @@ pub fn store(image: &mut [u8], b: AllocationBlock, value: u16)
     }
 }
 
-// The entries of blocks 2 to n + 1, each at its block's number, decoded by three bytes and two entries at a time. Behind an odd n
-// stands one more.
-pub fn decode(image: &[u8], n: u16) -> [u16; 642]
+// The entries of blocks 2 to n + 1, each at its block's number in the lent array, decoded by three bytes and two entries at a
+// time. Behind an odd n stands one more.
+pub fn decode(image: &[u8], n: u16, entries: &mut [u16; 642])
     requires { ⌜ (n ≤ 640) × (2048 ≤ length (now image)) ⌝ }
-    ensures { λ r. ⌜ Decoded (now (image .entry)) n r ⌝ }
+    ensures { λ _. ⌜ Decoded (now (image .entry)) n (now (entries .exit)) ⌝ }
 {
-    let mut entries = [0u16; 642];
+    // A proof learns a lent array's length where it is made a slice.
+    let entries: &mut [u16] = entries;
     let end = n as usize + 2;
     let mut at = MAP_AT;
     let mut b: usize = 2;
@@ -121,5 +122,4 @@ pub fn decode(image: &[u8], n: u16) -> [u16; 642]
         at += 3;
         b += 2;
     }
-    entries
 }

@@ -28,8 +28,8 @@ unfolding everything orders
 all-orders = row & row & row & row & row & row & row & row & row & row & end
 
 all-foldings : AllRight foldings
-unfolding everything borderDisk foldings
-all-foldings = row & row & row & row & row & row & end
+unfolding everything borderDisk oldDisk foldings
+all-foldings = row & row & row & row & row & row & row & row & end
 
 all-contents : AllRight contents
 unfolding everything sampled contents

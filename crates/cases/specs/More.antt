@@ -147,21 +147,40 @@ orders =
     ∷ refused 16 (write WEEK1 Data 701 (sample 0 1349) 9) hall
     ∷ []
 
+-- WEEK1 and RATES of HALL under names of 32 and 255 bytes, both dates 7 and 8, with bytes behind the directory
+unfoldable pub oldDisk : List ℕ
+oldDisk =
+    withBytes 2560 (sample 0 3584)
+    (disk
+    (record {
+      attributes = 0;
+      files = 2;
+      dirLength = 1;
+      next = 3;
+      free = 2;
+      map = hallMap;
+      directory = entryBytes 0x80 1 (forkBytesOf 2 700 1024) (zeros 10) 7 8 (longName 65 32) (0 ∷ [])
+          ++ entryBytes 0x80 2 (forkBytesOf 3 512 512) (zeros 10) 7 8 (longName 66 255) [];
+    }))
+
 -- HALL, its first file being named A Z @ [ and 80 hex
 unfoldable pub borderDisk : List ℕ
 borderDisk = withBytes 2099 (65 ∷ 90 ∷ 64 ∷ 91 ∷ 0x80 ∷ []) hall
 
--- a to z equal A to Z, every other byte equals only itself
+-- a to z equal A to Z, the accents are pairs, every other byte equals only itself
 unfoldable pub foldings : List Row
 foldings =
-    -- az@[ and 80 hex is found; with ` for @, { for [, A0 or 8A hex for 80 it is not
+    -- az@[ and 80 or 8A hex is found; with ` for @, { for [, A0 or 81 hex for 80 it is not
     does borderDisk (block (97 ∷ 122 ∷ 64 ∷ 91 ∷ 0x80 ∷ []) Data 1) (tellsBlock 4) borderDisk
+    ∷ does borderDisk (block (97 ∷ 90 ∷ 64 ∷ 91 ∷ 0x8a ∷ []) Data 1) (tellsBlock 4) borderDisk
     ∷ refused 13 (find (65 ∷ 90 ∷ 96 ∷ 91 ∷ 0x80 ∷ [])) borderDisk
     ∷ refused 13 (find (65 ∷ 90 ∷ 64 ∷ 123 ∷ 0x80 ∷ [])) borderDisk
     ∷ refused 13 (find (65 ∷ 90 ∷ 64 ∷ 91 ∷ 0xa0 ∷ [])) borderDisk
-    ∷ refused 13 (find (65 ∷ 90 ∷ 64 ∷ 91 ∷ 0x8a ∷ [])) borderDisk
+    ∷ refused 13 (find (65 ∷ 90 ∷ 64 ∷ 91 ∷ 0x81 ∷ [])) borderDisk
     -- 11 hex for the 1 of WEEK1
     ∷ refused 13 (find (87 ∷ 69 ∷ 69 ∷ 75 ∷ 0x11 ∷ [])) hall
+    -- a name of 32 that differs in its last byte
+    ∷ refused 13 (find (longName 65 31 ++ (66 ∷ []))) oldDisk
     ∷ []
 
 -- a disk of one directory block with bytes in its boot blocks, the first file's Finder information, the allocation blocks and
@@ -217,22 +236,6 @@ wideForks =
     ∷ does wideGrown (cut WEEK1 Data 1024 9) (only 0 [])
     (withBytes 1058 (bytes16 1) (withBytes 1088 (0x00 ∷ 0x00 ∷ 0x01 ∷ []) (withWeek1 3 1024 1024 9 wideGrown)))
     ∷ []
-
--- WEEK1 and RATES of HALL under names of 32 and 255 bytes, both dates 7 and 8, with bytes behind the directory
-unfoldable pub oldDisk : List ℕ
-oldDisk =
-    withBytes 2560 (sample 0 3584)
-    (disk
-    (record {
-      attributes = 0;
-      files = 2;
-      dirLength = 1;
-      next = 3;
-      free = 2;
-      map = hallMap;
-      directory = entryBytes 0x80 1 (forkBytesOf 2 700 1024) (zeros 10) 7 8 (longName 65 32) (0 ∷ [])
-          ++ entryBytes 0x80 2 (forkBytesOf 3 512 512) (zeros 10) 7 8 (longName 66 255) [];
-    }))
 
 -- what entry and find tell of the first file
 unfoldable pub oldFacts : DirectoryEntry

@@ -6,9 +6,10 @@ use mathlib.Core.List.{List, [], _∷_}
 use lib.ListN.{length, getD}
 use Rattle.model.specs.Bytes.{byte}
 use Rattle.model.specs.Lists.{distinct}
-use Rattle.model.specs.Directory.{numberIn, nameIn, folded}
+use Rattle.model.specs.Directory.{numberIn, nameIn}
 use Rattle.directory.specs.declared.EntryAt.{EntryAt}
 use Rattle.directory.specs.Cursor.{bytesAt, Stands}
+use Rattle.directory.specs.Folding.{folded}
 use Rattle.checks.specs.declared.Field.{Field}
 use Rattle.checks.specs.declared.Field.the-variants.{Number, Name}
 use Rattle.checks.specs.declared.table.Slot.{Slot}
@@ -17,10 +18,10 @@ use Rattle.checks.specs.declared.table.Compared.{Compared}
 use Rattle.checks.specs.declared.table.Compared.the-variants.{Differ, Repeated, Unknown}
 use Rattle.checks.specs.Same.{sameBy}
 
--- a hash of 16 bits, from five bits of each byte
+-- a hash of 16 bits
 unfoldable pub hashed : ℕ → List ℕ → ℕ
 hashed h [] = h
-hashed h (b ∷ bs) = hashed ((h * 31 + b % 32) % 65536) bs
+hashed h (b ∷ bs) = hashed ((h * 293 + b) % 65536) bs
 
 -- a number below 4,096
 unfoldable pub spreadOf : ℕ → ℕ

@@ -4,18 +4,21 @@ ghost use mathlib.Core.Bool.{_&&_};
 ghost use Rattle.model.specs.Lists.{any, distinct};
 ghost use Rattle.model.specs.Check.{sameNumbers, sameNames};
 ghost use Rattle.directory.specs.Cursor.{restOf, bytesAt, Stands, Passes};
+ghost use Rattle.directory.specs.Folding.{Folds};
 ghost use Rattle.checks.specs.Same.{sameBy, clash};
 use crate::Field;
 use directory::Advance;
 use directory::Cursor;
 use directory::EntryAt;
+use directory::fold_table;
 use directory::number_of;
 use directory::same_name;
 
 // Whether two entries are the same in this field: the same file number, or equal names.
-pub fn same(image: &[u8], d: EntryAt, e: EntryAt, field: Field) -> bool
+pub fn same(image: &[u8], d: EntryAt, e: EntryAt, field: Field, fold: &[u8; 256]) -> bool
     requires { ⌜ Stands (now image) d ⌝ }
     requires { ⌜ Stands (now image) e ⌝ }
+    requires { ⌜ Folds (now fold) ⌝ }
     ensures { λ r. ⌜ r ≡ sameBy field (bytesAt (now (image .entry)) d) (bytesAt (now (image .entry)) e) ⌝ }
 {
     match field {
@@ -25,34 +28,36 @@ pub fn same(image: &[u8], d: EntryAt, e: EntryAt, field: Field) -> bool
             let d_to = d_from + d.name_length;
             let e_from = e.start + EntryAt::NAME_AT;
             let e_to = e_from + e.name_length;
-            same_name(&image[d_from..d_to], &image[e_from..e_to])
+            same_name(&image[d_from..d_to], &image[e_from..e_to], fold)
         }
     }
 }
 
 // Whether two entries have the same file number or equal names.
-fn clashes(image: &[u8], e: EntryAt, d: EntryAt) -> bool
+fn clashes(image: &[u8], e: EntryAt, d: EntryAt, fold: &[u8; 256]) -> bool
     requires { ⌜ Stands (now image) e ⌝ }
     requires { ⌜ Stands (now image) d ⌝ }
+    requires { ⌜ Folds (now fold) ⌝ }
     ensures { λ r. ⌜ r ≡ clash (bytesAt (now (image .entry)) e) (bytesAt (now (image .entry)) d) ⌝ }
 {
-    if same(image, e, d, Field::Number) {
+    if same(image, e, d, Field::Number, fold) {
         return true;
     }
-    same(image, e, d, Field::Name)
+    same(image, e, d, Field::Name, fold)
 }
 
 // Whether the entry clashes with one from the cursor on.
-fn clashes_behind(image: &[u8], from: Cursor, e: EntryAt) -> bool
+fn clashes_behind(image: &[u8], from: Cursor, e: EntryAt, fold: &[u8; 256]) -> bool
     requires { ⌜ Passes (now image) from ⌝ }
     requires { ⌜ Stands (now image) e ⌝ }
+    requires { ⌜ Folds (now fold) ⌝ }
     ensures { λ r. ⌜ r ≡ any (clash (bytesAt (now (image .entry)) e)) (restOf (now (image .entry)) from) ⌝ }
 {
     let mut c = from;
     loop {
         match c.advance(image) {
             Advance::Entry(d, behind) => {
-                if clashes(image, e, d) {
+                if clashes(image, e, d, fold) {
                     return true;
                 }
                 c = behind;
@@ -69,11 +74,12 @@ pub fn pairs_differ(image: &[u8], from: Cursor) -> bool
     requires { ⌜ Passes (now image) from ⌝ }
     ensures { λ r. ⌜ r ≡ (distinct sameNumbers (restOf (now (image .entry)) from) && distinct sameNames (restOf (now (image .entry)) from)) ⌝ }
 {
+    let fold = fold_table();
     let mut c = from;
     loop {
         match c.advance(image) {
             Advance::Entry(e, behind) => {
-                if clashes_behind(image, behind, e) {
+                if clashes_behind(image, behind, e, &fold) {
                     return false;
                 }
                 c = behind;

@@ -3,14 +3,15 @@
 // with those from its home slot to the next free one.
 ghost use mathlib.Core.Path.{_≡_};
 ghost use Prim.Native.Nat.{_-_, _≤_};
-ghost use Rattle.model.specs.Directory.{folded};
 ghost use Rattle.directory.specs.Cursor.{restOf, bytesAt, Stands, Passes};
+ghost use Rattle.directory.specs.Folding.{folded, Folds};
 ghost use Rattle.checks.specs.Table.{hashed, spreadOf, homeBy, entryFrom, AllFree, Filled, Probed, Compares};
 use crate::Field;
 use crate::pairs::same;
 use directory::Advance;
 use directory::Cursor;
 use directory::EntryAt;
+use directory::fold_table;
 use directory::number_of;
 
 // Slots of the table. The first 4,096 are home slots. No directory has more than 2,304 entries, nine in each of 256 blocks, so that
@@ -52,14 +53,15 @@ fn entry_in_slot(image: &[u8], kept: u32) -> EntryAt
 }
 
 // The hash of a name, of 16 bits, with no regard to case.
-fn hash_name(name: &[u8]) -> u32
+fn hash_name(name: &[u8], fold: &[u8; 256]) -> u32
+    requires { ⌜ Folds (now fold) ⌝ }
     ensures { λ r. ⌜ r ≡ hashed 0 (folded (now (name .entry))) ⌝ }
 {
     let mut h: u32 = 0;
     let mut i = 0;
     while i < name.len() {
-        let low = name[i] % 32;
-        h = (h * 31 + low as u32) % 65536;
+        let b = fold[name[i] as usize];
+        h = (h * 293 + b as u32) % 65536;
         i += 1;
     }
     h
@@ -73,8 +75,9 @@ fn spread(h: u32) -> usize
 }
 
 // The home slot of an entry, by its number or its name.
-fn home(image: &[u8], e: EntryAt, field: Field) -> usize
+fn home(image: &[u8], e: EntryAt, field: Field, fold: &[u8; 256]) -> usize
     requires { ⌜ Stands (now image) e ⌝ }
+    requires { ⌜ Folds (now fold) ⌝ }
     ensures { λ r. ⌜ r ≡ homeBy field (bytesAt (now (image .entry)) e) ⌝ }
 {
     match field {
@@ -82,28 +85,29 @@ fn home(image: &[u8], e: EntryAt, field: Field) -> usize
         Field::Name => {
             let from = e.start + EntryAt::NAME_AT;
             let to = from + e.name_length;
-            spread(hash_name(&image[from..to]))
+            spread(hash_name(&image[from..to], fold))
         }
     }
 }
 
 // What the table has for an entry, from its home slot on.
-fn probe(image: &[u8], table: &[u32; SLOTS], e: EntryAt, field: Field) -> Slot
+fn probe(image: &[u8], table: &[u32; SLOTS], e: EntryAt, field: Field, fold: &[u8; 256]) -> Slot
     requires { ⌜ Stands (now image) e ⌝ }
     requires { ⌜ Filled (now image) (now table) ⌝ }
+    requires { ⌜ Folds (now fold) ⌝ }
     ensures { λ r. ⌜ Probed field (now (image .entry)) (now (table .entry)) e r ⌝ }
 {
     if LIMIT <= e.start {
         return Slot::Full;
     }
-    let mut i = home(image, e, field);
+    let mut i = home(image, e, field, fold);
     while i < SLOTS {
         let kept = table[i];
         if kept == 0 {
             return Slot::Free(i);
         }
         let d = entry_in_slot(image, kept);
-        if same(image, d, e, field) {
+        if same(image, d, e, field, fold) {
             return Slot::Equal;
         }
         i += 1;
@@ -117,10 +121,11 @@ fn insert_all(image: &[u8], from: Cursor, field: Field, table: &mut [u32; SLOTS]
     requires { ⌜ AllFree (now table) ⌝ }
     ensures { λ r. ⌜ Compares field (restOf (now (image .entry)) from) r ⌝ }
 {
+    let fold = fold_table();
     let mut c = from;
     loop {
         match c.advance(image) {
-            Advance::Entry(e, behind) => match probe(image, table, e, field) {
+            Advance::Entry(e, behind) => match probe(image, table, e, field, &fold) {
                 Slot::Free(i) => {
                     table[i] = (e.start + 1) as u32;
                     c = behind;

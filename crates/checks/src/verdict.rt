@@ -97,7 +97,8 @@ pub fn judge(image: &[u8], f: VolumeFacts) -> u8
     if number != 0 {
         return number;
     }
-    let entries = blockmap::decode(image, f.allocation_blocks);
+    let mut entries = [0u16; 642];
+    blockmap::decode(image, f.allocation_blocks, &mut entries);
     if blockmap::any_bad(&entries, f.allocation_blocks) {
         return 5;
     }

@@ -9,6 +9,7 @@ pub use fields::fork_place;
 pub use fields::number_of;
 pub use fields::read_entry;
 pub use fields::read_fork;
+pub use names::fold_table;
 pub use names::same_name;
 pub use places::entry_size;
 pub use search::entry_at;

@@ -1,20 +1,20 @@
 -- The tables of worked cases hold: antt computes them.
 use Prim.Native.Nat.{ℕ, zero, suc, _+_, _-_, _*_, _/_, _%_}
 use mathlib.Core.Path.{_≡_, refl, sym, ap, _∙_}
-use mathlib.Core.Bool.{false, not}
+use mathlib.Core.Bool.{true, false, not}
 use mathlib.Core.List.{List, [], _∷_, _++_}
 use native.Mathlib.Omega.{arith}
 use lib.Dec.{eqb, eqb·suc-zero}
-use lib.ListN.{take, drop, replicate, length, length-append, take-append-drop}
+use lib.ListN.{take, drop, replicate, length, getD, length-append, take-append-drop}
 use lib.Seq.{sets, drop-drop, drop-at, take-at}
-use Rattle.model.specs.Lists.{every, any, distinct, keep, first, placeOf, flat, from, times, firstOr0, same}
+use Rattle.model.specs.Lists.{every, any, distinct, keep, first, placeOf, flat, from, times, firstOr0}
 use Rattle.model.specs.Bytes.{part, be16, be32, bytes32, zeros}
 use Rattle.model.specs.Facts.{factsIn, factsOf, isLocked, noFacts}
 use Rattle.model.specs.Map.{joined, firstByte, secondByte, mapEntry, setEntry, isBlock, sortOf, isBad, runs, chainBlocks, freeBlocks, behind, putChain}
 use Rattle.model.specs.Map.{putFree}
 use Rattle.model.specs.Directory.{padded, entrySize, inUse, endsAt, nextPlace, readAt, entries, readEnd, cutBlocks, directoryBlocks, listing, directory}
 use Rattle.model.specs.Directory.{numberIn, nameIn, finderIn, forkIn, forkOf, wide, entryIn, noEntry, flagsLock, forksIn, blockCount, forkBlocks}
-use Rattle.model.specs.Directory.{ownedBlocks, fold, folded, sameName, named}
+use Rattle.model.specs.Directory.{ownedBlocks, letters, accents, pairs, isPair, paired, sameByte, sameName, named}
 use Rattle.model.specs.Check.{fires1, fires2, fires3, fires4, fires5, goodEntry, fires6, goodNumber, fires7, emptyFork, fullFork, goodFork, sharesNone}
 use Rattle.model.specs.Check.{orElse, firstOf, fires8, fires9, fires10, from9, from8, from7, from6, from5, from4, from3, from2, verdict}
 use Rattle.model.specs.Container.{inside, tags, turned, added, summed, checksum, tagChecksum, badSize, badHeader, fires22, fires23, fires24}
@@ -26,21 +26,24 @@ use Rattle.model.specs.Calls.{tellsFacts, tellsEntry, tellsBlock, tellsB
 use Rattle.model.specs.Cases.{Plan, info, disk, entryBytes, weekEntry, ratesEntry, hallMap, hallPlan, hall, hallByRules, withBytes, sample, withWeek1}
 use Rattle.model.specs.Cases.{freeCount3, ring, info800, Row, Right, AllRight, end, _&_, weekFacts, pCases, PCases, hallFacts, ratesFacts, newsEntry}
 use Rattle.model.specs.Cases.{paddedDisk, staleDisk, deadDisk, fullWeek, resourceDisk, roomyDisk, longName, longDisk, twoBlocks, tellsRead, longFacts}
-use Rattle.model.specs.Cases.{telling, longNames, WEEK1, headOf, headWith, containers, FurtherCases}
-use Rattle.model.specs.Cases.Row.{does, passes3, gives3, wraps, stops, declines, serves, renews}
+use Rattle.model.specs.Cases.{telling, longNames, WEEK1, headOf, headWith, containers, accentDisk, accentFacts, lettersListed, pairsListed, othersLow}
+use Rattle.model.specs.Cases.{othersHigh, accented, FurtherCases}
+use Rattle.model.specs.Cases.Row.{does, passes3, gives3, wraps, stops, declines, serves, renews, twins, alone}
 use Rattle.model.specs.Calls.{Call, Answer}
 use Rattle.model.specs.declared.Fork.the-variants.{Data}
 use Rattle.model.specs.Calls.Call.{check, entry, find, block, read, create, write, cut, delete, wrap}
 use Rattle.model.specs.Wrapped.{fileRefusal, fileAnswer, fileAfter}
+use Rattle.model.proofs.Lists.{every-at}
+use Rattle.model.proofs.Names.{unpaired, only-itself, lower-twin, upper-twin}
 
 -- all that a case computes through, opened by one name
 unfoldable pub everything : Unit {0}
-unfolding every any distinct keep first placeOf flat from times firstOr0 same
+unfolding every any distinct keep first placeOf flat from times firstOr0
     be16 be32 firstOf
     factsIn factsOf isLocked noFacts
     joined firstByte secondByte mapEntry setEntry isBlock sortOf isBad runs chainBlocks freeBlocks behind putChain putFree
     padded entrySize inUse endsAt nextPlace readAt entries readEnd cutBlocks directoryBlocks listing directory numberIn nameIn finderIn forkIn forkOf wide
-    entryIn noEntry flagsLock forksIn blockCount forkBlocks ownedBlocks fold folded sameName named
+    entryIn noEntry flagsLock forksIn blockCount forkBlocks ownedBlocks letters accents pairs isPair paired sameByte sameName named
     fires1 fires2 fires3 fires4 fires5 goodEntry fires6 goodNumber fires7 emptyFork fullFork goodFork sharesNone fires8 fires9 fires10 from9 from8 from7 from6
     from5 from4 from3 from2 verdict
     nameOf forkGiven fewest grown needed badName tooLong checks refuses entryNamed hasRoom knownIn refusal bytesOf forkBytes putBlocks putContent readCount
@@ -49,6 +52,7 @@ unfolding every any distinct keep first placeOf flat from times firstOr0 same
     turned added summed checksum tagChecksum badSize badLengths
     info disk entryBytes weekEntry ratesEntry hallMap hallPlan hall hallByRules withBytes sample withWeek1 freeCount3 ring info800 Right weekFacts hallFacts
     ratesFacts newsEntry paddedDisk staleDisk deadDisk fullWeek resourceDisk roomyDisk longName longDisk twoBlocks tellsRead longFacts headOf headWith
+    accentDisk accentFacts
 everything = tt
 
 -- the facts are those of the 64 bytes at 1024
@@ -197,10 +201,30 @@ containers-right =
     & row
     & end
 
+-- ---- equal bytes
+
+twin-row : (ps : List (ℕ × ℕ)) → every (λ p. paired (p .0) (p .1)) ps ≡ true → Right (twins ps)
+unfolding Right
+twin-row ps h i l c =
+    let p = getD ps i (0, 0) in
+    let q = every-at (λ x. paired (x .0) (x .1)) (0, 0) ps h i l in
+    (lower-twin (p .0) (p .1) c q, upper-twin (p .0) (p .1) c q)
+
+alone-row : (bs : List ℕ) → every unpaired bs ≡ true → Right (alone bs)
+unfolding Right
+alone-row bs h i l c = only-itself (getD bs i 0) c (every-at unpaired 0 bs h i l)
+
+accented-right : AllRight accented
+unfolding everything unpaired accented
+accented-right =
+    twin-row lettersListed refl & twin-row pairsListed refl & alone-row othersLow refl & alone-row othersHigh refl
+    & row & row & row & row & row & row & row & row & row & row & row & row & end
+
 pub further : FurtherCases
 unfolding everything telling longNames FurtherCases
 further = (
   row & row & row & row & row & row & row & row & row & end,
   row & row & row & row & row & row & row & row & row & row & row & end,
   containers-right,
+  accented-right,
 )

@@ -14,16 +14,15 @@ use Rattle.model.specs.Lists.{every, distinct, times}
 use Rattle.model.specs.Bytes.{byte}
 use Rattle.model.specs.Facts.{factsOf, dirStart, dirLength, N, A, S, nextNumber, freeCount, blocksIn}
 use Rattle.model.specs.Map.{mapEntry, sortOf, isBad, Chain, runs, chainBlocks, freeBlocks}
-use Rattle.model.specs.Directory.{entrySize, directory, numberIn, nameIn, forksIn, blockCount, forkBlocks, ownedBlocks}
+use Rattle.model.specs.Directory.{entrySize, directory, numberIn, forksIn, blockCount, forkBlocks, ownedBlocks}
 use Rattle.model.specs.Check.{fires1, fires2, fires3, fires4, fires5, goodEntry, fires6, goodNumber, sameNumbers, sameNames, fires7}
 use Rattle.model.specs.Check.{emptyFork, fullFork, goodFork, sharesNone, fires8, fires9, fires10}
 use Rattle.model.specs.Check.{orElse, from9, from8, from7, from6, from5, from4, from3, from2, verdict}
 use Rattle.model.specs.Check.{Layout, SoundFacts, SoundEntry, SoundDirectory, SoundFork, forkAt, HasBlock, SoundMap, Accepted, VerdictIsAccepted}
 use Rattle.model.specs.declared.VolumeFacts.{VolumeFacts}
 use Rattle.model.specs.declared.ForkFacts.{ForkFacts}
-use Rattle.model.proofs.Lists.{and-true, or-false, not-so, so-not, every-at, at-every, distinct-at, at-distinct}
+use Rattle.model.proofs.Lists.{and-true, or-false, every-at, at-every, distinct-at, at-distinct}
 use Rattle.model.proofs.Times.{flat-one, flat-two, flat-find, flat-once, every-from, from-every, any-from, from-any}
-use Rattle.model.proofs.Names.{same-name-true, eq-same-name}
 use Rattle.model.proofs.Map.{bad-above, runs-chain, chain-runs, chain-low, chain-high, chain-once}
 
 -- ---- 1 to 4
@@ -161,7 +160,7 @@ module _ (f : VolumeFacts) (es : List (List ℕ)) where
             λ i l. good-entry (nextNumber f) (getD es i []) (every-at goodEntry [] es (not-false _ h₆) i l)
             (every-at (goodNumber (nextNumber f)) [] es (b .0) i l);
         numbersDiffer = λ i j k l. eqb-false _ _ (distinct-at sameNumbers [] es (c .0) i j k l);
-        namesDiffer = λ i j k l q. so-not _ (distinct-at sameNames [] es (c .1) i j k l) (eq-same-name (nameIn (getD es i [])) (nameIn (getD es j [])) q);
+        namesDiffer = λ i j k l. distinct-at sameNames [] es (c .1) i j k l;
       }
 
   module _ (s : SoundDirectory f es) where
@@ -174,8 +173,7 @@ module _ (f : VolumeFacts) (es : List (List ℕ)) where
     directory-pass7 =
         let a = at-every (goodNumber (nextNumber f)) [] es (λ i l. entry-numbered (nextNumber f) (getD es i []) (s .each i l)) in
         let b = at-distinct sameNumbers [] es (λ i j k l. ne-eqb _ _ (s .numbersDiffer i j k l)) in
-        let c = at-distinct sameNames [] es
-        (λ i j k l. not-so _ (λ t. s .namesDiffer i j k l (same-name-true (nameIn (getD es i [])) (nameIn (getD es j [])) t))) in
+        let c = at-distinct sameNames [] es (s .namesDiffer) in
         rw (eq-eqb (length es) (f .files) (s .count), a, b, c)
 
 -- ---- 8: one fork

@@ -1,16 +1,17 @@
--- The disk HALL, the P cases as one table under one statement, and three tables of further cases, the second on long names, the
--- third on wrapped files.
-use Prim.Native.Nat.{ℕ, zero, suc, _+_, _-_, _*_, _/_, _%_}
+-- The disk HALL, the P cases as one table under one statement, and four tables of further cases, the second on long names, the
+-- third on wrapped files, the fourth on accents.
+use Prim.Native.Nat.{ℕ, zero, suc, _+_, _-_, _*_, _/_, _%_, _<_}
 use mathlib.Core.Path.{_≡_}
-use mathlib.Core.Bool.{Bool, true, false}
+use mathlib.Core.Bool.{Bool, true, false, _||_}
 use mathlib.Core.List.{List, [], _∷_, _++_, map}
-use lib.ListN.{length, take, drop, replicate}
+use lib.Dec.{eqb}
+use lib.ListN.{length, getD, take, drop, replicate}
 use lib.Seq.{paste}
 use Rattle.model.specs.Lists.{flat, from}
 use Rattle.model.specs.Bytes.{byte, bytes16, bytes32, zeros, part}
 use Rattle.model.specs.Facts.{factsOf, blocksIn, noFacts}
 use Rattle.model.specs.Map.{mapEntry, putChain}
-use Rattle.model.specs.Directory.{noEntry}
+use Rattle.model.specs.Directory.{noEntry, sameByte}
 use Rattle.model.specs.Check.{fires3, verdict}
 use Rattle.model.specs.Calls.{Call, Answer, lent, refusal, reply, change, only, tellsFacts, tellsEntry, tellsBlock, answer, after}
 use Rattle.model.specs.Container.{checksum, tagChecksum, badHeader, badLengths, renewed}
@@ -147,6 +148,9 @@ pub data Row : Type 0 where
   serves : (header : List ℕ) (sum long tagSum : ℕ) (call : Call) (new : ℕ) (after : List ℕ) → Row
   -- every file of that header, with new data of that checksum, has this header, the new data and the tags that it had
   renews : (header : List ℕ) (sum : ℕ) (after : List ℕ) → Row
+  -- in names either byte of each pair equals itself and the other, and no other number; each of these bytes equals only itself
+  twins : (pairs : List (ℕ × ℕ)) → Row
+  alone : (bytes : List ℕ) → Row
 
 unfoldable pub Right : Row → Type 0
 Right (pair ab cd ef x y) =
@@ -181,6 +185,11 @@ Right (serves header sum long tagSum call new after) =
 Right (renews header sum after) =
     (content new behind : List ℕ) → length content ≡ 409600 → length new ≡ 409600 → checksum new ≡ sum
     → renewed (header ++ (content ++ behind)) new ≡ after ++ (new ++ behind)
+Right (twins pairs) =
+    (i : ℕ) → i < length pairs → (c : ℕ)
+    → (sameByte (getD pairs i (0, 0) .0) c ≡ (eqb (getD pairs i (0, 0) .0) c || eqb (getD pairs i (0, 0) .1) c))
+    × (sameByte (getD pairs i (0, 0) .1) c ≡ (eqb (getD pairs i (0, 0) .0) c || eqb (getD pairs i (0, 0) .1) c))
+Right (alone bytes) = (i : ℕ) → i < length bytes → (c : ℕ) → sameByte (getD bytes i 0) c ≡ eqb (getD bytes i 0) c
 
 -- every row of the list
 infixr 5 _&_
@@ -487,5 +496,89 @@ containers =
     ∷ does freeCount3 (wrap NEWS 0x22 (replicate 3 0xee)) (only 22 (replicate 3 0xee)) freeCount3
     ∷ []
 
+-- names of three bytes
+abbrev pub three : ℕ → ℕ → ℕ → List ℕ
+three a b c = a ∷ b ∷ c ∷ []
+
+abbrev pub NEW : List ℕ
+NEW = three 78 69 87
+
+-- two files of such names, with no bytes
+unfoldable pub accentDisk : List ℕ → List ℕ → List ℕ
+accentDisk m n =
+    disk
+    (record {
+      attributes = 0;
+      files = 2;
+      dirLength = 1;
+      next = 3;
+      free = 5;
+      map = [];
+      directory = entryBytes 0x80 1 (zeros 10) (zeros 10) 7 8 m [] ++ entryBytes 0x80 2 (zeros 10) (zeros 10) 7 8 n [];
+    })
+
+-- what find tells of one of them
+unfoldable pub accentFacts : ℕ → List ℕ → DirectoryEntry
+accentFacts number name = record {
+  flags = 0x80;
+  version = 0;
+  finder = zeros 16;
+  number = number;
+  «data» = record { start = record { 0 = 0 }; logical = 0; physical = 0 };
+  resource = record { start = record { 0 = 0 }; logical = 0; physical = 0 };
+  created = 7;
+  changed = 8;
+  «name_length» = 3;
+  name = name ++ zeros 252;
+}
+
+-- every byte once: a to z and A to Z, the 13 pairs, the others below 80 hex, and the others from there on, 87 and E7, 89 and E5, 90
+-- and E6, D8 and D9 among them
+abbrev pub lettersListed : List (ℕ × ℕ)
+lettersListed = map (λ i. (0x61 + i, 0x41 + i)) (from 26 0)
+
+abbrev pub pairsListed : List (ℕ × ℕ)
+pairsListed =
+    (0x88, 0xcb) ∷ (0x8a, 0x80) ∷ (0x8b, 0xcc) ∷ (0x8c, 0x81) ∷ (0x8d, 0x82) ∷ (0x8e, 0x83) ∷ (0x96, 0x84) ∷ (0x9a, 0x85) ∷ (0x9b, 0xcd)
+    ∷ (0x9f, 0x86) ∷ (0xbe, 0xae) ∷ (0xbf, 0xaf) ∷ (0xcf, 0xce) ∷ []
+
+abbrev pub othersLow : List ℕ
+othersLow = from 65 0x00 ++ (from 6 0x5b ++ from 5 0x7b)
+
+abbrev pub othersHigh : List ℕ
+othersHigh = 0x87 ∷ 0x89 ∷ (from 7 0x8f ++ (from 3 0x97 ++ (from 3 0x9c ++ (from 14 0xa0 ++ (from 14 0xb0 ++ (from 11 0xc0 ++ from 48 0xd0))))))
+
+-- document 02, T-03: what equals what, and checks 7, 13 and 14
+unfoldable pub accented : List Row
+accented =
+    twins lettersListed
+    ∷ twins pairsListed
+    ∷ alone othersLow
+    ∷ alone othersHigh
+    -- both spellings on one volume; two names that a wider table would fold
+    ∷ bad 7 (accentDisk (three 0x8e 0x74 0x8e) (three 0x83 0x74 0x83))
+    ∷ bad 7 (accentDisk (three 0x83 0x74 0x8e) (three 0x8e 0x54 0x83))
+    ∷ does (accentDisk (three 0x87 0x74 0x87) (three 0xe7 0x74 0xe7)) (find (three 0xe7 0x74 0xe7)) (tellsEntry 1 (accentFacts 2 (three 0xe7 0x74 0xe7)))
+    (accentDisk (three 0x87 0x74 0x87) (three 0xe7 0x74 0xe7))
+    -- found by the other spelling and told as stored; a near miss is not found
+    ∷ does (accentDisk NEW (three 0x8e 0x74 0x8e)) (find (three 0x83 0x54 0x83)) (tellsEntry 1 (accentFacts 2 (three 0x8e 0x74 0x8e)))
+    (accentDisk NEW (three 0x8e 0x74 0x8e))
+    ∷ refused 13 (find (three 0x83 0x74 0xe6)) (accentDisk NEW (three 0x8e 0x74 0x8e))
+    -- the desk wrote "Été", and the box is asked for "été": 14; a near miss is a new name
+    ∷ refused 14 (create (three 0x8e 0x74 0x8e) (zeros 16) 7 8) (accentDisk NEW (three 0x83 0x74 0x8e))
+    ∷ does (accentDisk NEW (three 0x83 0x74 0x83)) (create (three 0x8e 0x74 0x8f) (zeros 16) 7 8) (only 0 [])
+    (withBytes 1036 (bytes16 3) (withBytes 1054 (bytes32 4)
+    (withBytes 2156 (entryBytes 0x80 3 (zeros 10) (zeros 10) 7 8 (three 0x8e 0x74 0x8f) []) (accentDisk NEW (three 0x83 0x74 0x83)))))
+    -- deleted and written by the other spelling: the entry itself goes, or has the new date
+    ∷ does (accentDisk NEW (three 0x83 0x74 0x8e)) (delete (three 0x8e 0x54 0x83)) (only 0 [])
+    (withBytes 1036 (bytes16 1) (withBytes 2102 (zeros 458) (accentDisk NEW (three 0x83 0x74 0x8e))))
+    ∷ does (accentDisk NEW (three 0x83 0x74 0x8e)) (write (three 0x8e 0x54 0x83) Data 0 [] 9) (only 0 [])
+    (withBytes 2148 (bytes32 9) (accentDisk NEW (three 0x83 0x74 0x8e)))
+    -- a name shorter or longer by a byte, or other in the middle
+    ∷ refused 13 (find (0x83 ∷ 0x74 ∷ [])) (accentDisk NEW (three 0x8e 0x74 0x8e))
+    ∷ refused 13 (find (0x83 ∷ 0x74 ∷ 0x83 ∷ 0x83 ∷ [])) (accentDisk NEW (three 0x8e 0x74 0x8e))
+    ∷ refused 13 (find (three 0x83 0x75 0x83)) (accentDisk NEW (three 0x8e 0x74 0x8e))
+    ∷ []
+
 unfoldable pub FurtherCases : Type 0
-FurtherCases = AllRight telling × AllRight longNames × AllRight containers
+FurtherCases = AllRight telling × AllRight longNames × AllRight containers × AllRight accented

@@ -10,7 +10,7 @@ use Rattle.model.specs.Lists.{every, any, distinct, from, times}
 use Rattle.model.specs.Bytes.{byte}
 use Rattle.model.specs.Facts.{factsOf, dirStart, dirLength, N, A, S, nextNumber, freeCount, blocksIn}
 use Rattle.model.specs.Map.{mapEntry, sortOf, isBad, Chain, runs, freeBlocks}
-use Rattle.model.specs.Directory.{entrySize, directory, numberIn, nameIn, forksIn, blockCount, forkBlocks, ownedBlocks, folded, sameName}
+use Rattle.model.specs.Directory.{entrySize, directory, numberIn, nameIn, forksIn, blockCount, forkBlocks, ownedBlocks, sameName}
 use Rattle.model.specs.declared.VolumeFacts.{VolumeFacts}
 use Rattle.model.specs.declared.LogicalBlock.{LogicalBlock}
 use Rattle.model.specs.declared.ForkFacts.{ForkFacts}
@@ -177,7 +177,7 @@ pub record SoundDirectory (f : VolumeFacts) (es : List (List ℕ)) : Type 0 wher
   pub count : length es ≡ f .files
   pub each : (i : ℕ) → i < length es → SoundEntry (nextNumber f) (getD es i [])
   pub numbersDiffer : (i j : ℕ) → i < j → j < length es → numberIn (getD es i []) ≡ numberIn (getD es j []) → ⊥
-  pub namesDiffer : (i j : ℕ) → i < j → j < length es → folded (nameIn (getD es i [])) ≡ folded (nameIn (getD es j [])) → ⊥
+  pub namesDiffer : (i j : ℕ) → i < j → j < length es → sameName (nameIn (getD es i [])) (nameIn (getD es j [])) ≡ false
 
 -- what check 8 asks of one fork
 pub record SoundFork (e : ℕ → ℕ) (n a : ℕ) (g : ForkFacts) : Type 0 where

@@ -1,10 +1,10 @@
 -- The directory: entries, the reading of a block, the order over all blocks, forks, names without case.
 use Prim.Native.Nat.{ℕ, zero, suc, _+_, _-_, _*_, _/_, _%_}
-use mathlib.Core.Bool.{Bool, true, false, _&&_, _||_, not, cond}
+use mathlib.Core.Bool.{Bool, true, false, _&&_, _||_, not}
 use mathlib.Core.List.{List, [], _∷_, _++_, map}
 use lib.ListN.{length, getD, take, drop, replicate}
 use lib.Dec.{eqb, leb}
-use Rattle.model.specs.Lists.{flat, same}
+use Rattle.model.specs.Lists.{any, flat, from}
 use Rattle.model.specs.Bytes.{byte, be16, be32, zeros, part}
 use Rattle.model.specs.Facts.{factsOf, dirStart, dirLength}
 use Rattle.model.specs.Map.{chainBlocks}
@@ -136,15 +136,37 @@ ownedBlocks e a gs = flat (map (forkBlocks e a) gs)
 
 -- ---- names
 
--- Names compare without case: a to z equal A to Z, every other byte equals only itself.
-unfoldable pub fold : ℕ → ℕ
-fold c = cond (leb 97 c && leb c 122) (c - 32) c
+-- a to z equal A to Z: lower and upper
+unfoldable pub letters : List (ℕ × ℕ)
+letters = map (λ u. (u + 32, u)) (from 26 65)
 
-unfoldable pub folded : List ℕ → List ℕ
-folded name = map fold name
+-- Document 02, T-03: these Mac OS Roman pairs are equal too, lower then upper in hex.
+unfoldable pub accents : List (ℕ × ℕ)
+accents =
+    (0x88, 0xcb) ∷ (0x8a, 0x80) ∷ (0x8b, 0xcc) ∷ (0x8c, 0x81) ∷ (0x8d, 0x82) ∷ (0x8e, 0x83) ∷ (0x96, 0x84) ∷ (0x9a, 0x85) ∷ (0x9b, 0xcd)
+    ∷ (0x9f, 0x86) ∷ (0xbe, 0xae) ∷ (0xbf, 0xaf) ∷ (0xcf, 0xce) ∷ []
 
+unfoldable pub pairs : List (ℕ × ℕ)
+pairs = letters ++ accents
+
+-- p is the pair of l and u, lower and upper
+unfoldable pub isPair : ℕ → ℕ → ℕ × ℕ → Bool
+isPair l u p = eqb l (p .0) && eqb u (p .1)
+
+-- l is the lower and u the upper one of a pair
+unfoldable pub paired : ℕ → ℕ → Bool
+paired l u = any (isPair l u) pairs
+
+-- Every other byte equals only itself.
+unfoldable pub sameByte : ℕ → ℕ → Bool
+sameByte b c = let r = paired b c || paired c b in eqb b c || r
+
+-- Names compare without case, byte by byte.
 unfoldable pub sameName : List ℕ → List ℕ → Bool
-sameName m n = same (folded m) (folded n)
+sameName [] [] = true
+sameName [] (c ∷ n) = false
+sameName (b ∷ m) [] = false
+sameName (b ∷ m) (c ∷ n) = let r = sameName m n in sameByte b c && r
 
 -- the entry has that name
 unfoldable pub named : List ℕ → List ℕ → Bool

@@ -59,10 +59,3 @@ times b (x ∷ xs) = cond (eqb b x) 1 0 + times b xs
 unfoldable pub firstOr0 : List ℕ → ℕ
 firstOr0 [] = 0
 firstOr0 (b ∷ bs) = b
-
--- the two lists are equal
-unfoldable pub same : List ℕ → List ℕ → Bool
-same [] [] = true
-same [] (y ∷ ys) = false
-same (x ∷ xs) [] = false
-same (x ∷ xs) (y ∷ ys) = let r = same xs ys in eqb x y && r

@@ -1,10 +1,10 @@
 -- `decode` meets its contract. The invariant: b is even, `at` is the first byte of its pair, and the blocks below b are decoded.
 -- Assumes nothing.
-use Prim.Native.Nat.{ℕ, _+_, _-_, _%_, _≤_, _<_}
+use Prim.Native.Nat.{_+_, _-_, _%_, _≤_}
 use mathlib.Core.Path.{_≡_, _∙_}
 use native.Mathlib.Omega.{arith}
 use denote.Ref.{now}
-use lib.ListN.{length, length-set, length-replicate}
+use lib.ListN.{length, length-set}
 use Rattle.model.specs.Map.{entryByte}
 use Rattle.blockmap.proofs.Pairs.{Below, first-entry, second-entry, below-more, below-all}
 use borrow.Author.Needs.{needs}
@@ -18,15 +18,18 @@ Inv-loop image n entries₀ end at₀ b₀ entries at b =
 abbrev μ-loop : tie.MeasureT-loop
 μ-loop image n entries₀ end at₀ b₀ entries at b = n + 3 - b
 
--- the loop, from a pair's first entry
+-- the loop, from a pair's first entry, and the start, from the loop
 abbrev at-loop : tie.After-join-even Inv-loop μ-loop → tie.At-loop Inv-loop μ-loop
 at-loop c = c .before .before .before .before
+
+abbrev start : tie.At-loop Inv-loop μ-loop → tie.Start Inv-loop μ-loop
+start at = at .before .before .before
 
 add-end : tie.Need-add-end Inv-loop μ-loop
 add-end c = omega arith
 
 loop-holds : tie.Need-loop-holds Inv-loop μ-loop
-loop-holds c = (omega arith, omega arith, omega arith, omega arith, length-replicate {A = ℕ} 642 0, λ i low high. absurd (omega arith))
+loop-holds c = (omega arith, omega arith, omega arith, omega arith, c .entries .given .0 .1, λ i low high. absurd (omega arith))
 
 add-second : tie.Need-add-second Inv-loop μ-loop
 add-second c = omega arith
@@ -52,8 +55,8 @@ join-odd-requires c κs = search needs
 mul-entries : tie.Need-mul-entries Inv-loop μ-loop
 mul-entries c = omega arith
 
-array-write-entries : tie.Need-array-write-entries Inv-loop μ-loop
-array-write-entries c = omega arith
+slice-write-entries : tie.Need-slice-write-entries Inv-loop μ-loop
+slice-write-entries c = omega arith
 
 add-entries : tie.Need-add-entries Inv-loop μ-loop
 add-entries c = omega arith
@@ -61,8 +64,8 @@ add-entries c = omega arith
 mul-entries-2 : tie.Need-mul-entries-2 Inv-loop μ-loop
 mul-entries-2 c = omega arith
 
-array-write-entries-2 : tie.Need-array-write-entries-2 Inv-loop μ-loop
-array-write-entries-2 c = omega arith
+slice-write-entries-2 : tie.Need-slice-write-entries-2 Inv-loop μ-loop
+slice-write-entries-2 c = let l = at-loop (c .before .before) .loop in omega (arith, length-set (l .entries) (l .b) (c .before .before .join-even .result))
 
 add-at : tie.Need-add-at Inv-loop μ-loop
 add-at c = omega arith
@@ -78,7 +81,7 @@ loop-again c =
     let pair = c .before .before in
     let at = at-loop pair in
     let l = at .loop in
-    let image = now (at .before .before .args .image) in
+    let image = now (start at .args .image) in
     let v = pair .join-even .ensures .0 ∙ first-entry image (l .b) (l .at) (l .inv .0) (l .inv .1) (l .inv .3) in
     let w = c .join-odd .ensures .0 ∙ second-entry image (l .b) (l .at) (l .inv .0) (l .inv .1) (l .inv .3) in (
       omega arith,
@@ -92,7 +95,7 @@ loop-again c =
 returns : tie.Need-returns Inv-loop μ-loop
 returns c =
     let l = c .before .loop in
-    let a = c .before .before .before .args in
+    let a = start (c .before) .args in
     below-all (now (a .image)) (a .n) (l .b) (l .entries) (omega arith) (l .inv .5)
 
 pub decode-spec : {M : Type 1} → statement M
@@ -111,10 +114,10 @@ decode-spec =
     shared-slice-read-join-odd
     join-odd-requires
     mul-entries
-    array-write-entries
+    slice-write-entries
     add-entries
     mul-entries-2
-    array-write-entries-2
+    slice-write-entries-2
     add-at
     add-b
     loop-less

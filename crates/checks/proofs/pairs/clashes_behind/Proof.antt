@@ -12,10 +12,10 @@ use Rattle.checks.proofs.pairs.clashes_behind.Statement.{statement}
 use Rattle.checks.proofs.pairs.clashes_behind.Tie as tie
 
 abbrev Inv-loop : tie.InvT-loop
-Inv-loop image e c₀ c = Passes image c × (any (clash (bytesAt image e)) (restOf image c₀) ≡ any (clash (bytesAt image e)) (restOf image c))
+Inv-loop image e fold c₀ c = Passes image c × (any (clash (bytesAt image e)) (restOf image c₀) ≡ any (clash (bytesAt image e)) (restOf image c))
 
 abbrev μ-loop : tie.MeasureT-loop
-μ-loop image e c₀ c = ahead c
+μ-loop image e fold c₀ c = ahead c
 
 -- the loop's test, from the next entry on
 abbrev at-loop : tie.After-d Inv-loop μ-loop → tie.At-loop Inv-loop μ-loop
@@ -36,7 +36,10 @@ enum-known-d : tie.Need-enum-known-d Inv-loop μ-loop
 enum-known-d c = search needs
 
 clashes-requires : tie.Need-clashes-requires Inv-loop μ-loop
-clashes-requires c κs = let k = c .before in (at-loop k .before .before .pre .1, step k .moves .stands)
+clashes-requires c κs =
+    let k = c .before in
+    let p = at-loop k .before .before .pre .1 in
+    (p .0, (step k .moves .stands, p .1))
 
 returns : tie.Need-returns Inv-loop μ-loop
 returns c =

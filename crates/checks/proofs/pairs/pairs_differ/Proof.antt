@@ -11,19 +11,30 @@ use Rattle.checks.proofs.pairs.pairs_differ.Statement.{statement}
 use Rattle.checks.proofs.pairs.pairs_differ.Tie as tie
 
 abbrev Inv-loop : tie.InvT-loop
-Inv-loop image c₀ c = Passes image c × (allDiffer (restOf image c₀) ≡ allDiffer (restOf image c))
+Inv-loop image fold c₀ c = Passes image c × (allDiffer (restOf image c₀) ≡ allDiffer (restOf image c))
 
 abbrev μ-loop : tie.MeasureT-loop
-μ-loop image c₀ c = ahead c
+μ-loop image fold c₀ c = ahead c
+
+-- the loop's test, from the next entry on
+abbrev at-loop : tie.After-e Inv-loop μ-loop → tie.At-loop Inv-loop μ-loop
+at-loop c = c .before .before .before
+
+-- the next entry, from where it is compared
+abbrev next : tie.After-clashes-behind Inv-loop μ-loop → tie.After-e Inv-loop μ-loop
+next c = c .before .before .before
 
 -- the step to the next entry
-step : (c : tie.After-e Inv-loop μ-loop) → let l = c .before .before .before in
-    Advances (now (l .before .before .args .image)) (l .loop .c) (c .e .given .0 .0) (c .e .given .0 .1 .0)
+step : (c : tie.After-e Inv-loop μ-loop) → let l = at-loop c in
+    Advances (now (l .before .before .before .args .image)) (l .loop .c) (c .e .given .0 .0) (c .e .given .0 .1 .0)
 step c = advanced (c .before .before .advance .ensures) (c .e .given .1)
+
+fold-table-requires : tie.Need-fold-table-requires Inv-loop μ-loop
+fold-table-requires c κs = search needs
 
 loop-holds : tie.Need-loop-holds Inv-loop μ-loop
 unfolding allDiffer
-loop-holds c = (c .before .pre, refl)
+loop-holds c = (c .before .before .pre, refl)
 
 advance-requires : tie.Need-advance-requires Inv-loop μ-loop
 advance-requires c κs = search needs
@@ -32,22 +43,25 @@ enum-known-e : tie.Need-enum-known-e Inv-loop μ-loop
 enum-known-e c = search needs
 
 clashes-behind-requires : tie.Need-clashes-behind-requires Inv-loop μ-loop
-clashes-behind-requires c κs = let s = step (c .before) in (s .passes, s .moves .stands)
+clashes-behind-requires c κs =
+    let k = c .before .before in
+    let s = step k in
+    (s .passes, (s .moves .stands, at-loop k .before .fold-table .ensures .0))
 
 returns : tie.Need-returns Inv-loop μ-loop
 unfolding allDiffer
 returns c =
-    let k = c .before .before .before in
-    sym (k .before .before .before .loop .inv .1 ∙ differ-not (step k .moves .rest) (sym (c .before .clashes-behind .ensures) ∙ c .if1 .taken))
+    let k = next (c .before) in
+    sym (at-loop k .loop .inv .1 ∙ differ-not (step k .moves .rest) (sym (c .before .clashes-behind .ensures) ∙ c .if1 .taken))
 
 loop-less : tie.Need-loop-less Inv-loop μ-loop
-loop-less c = step (c .before .before .before) .moves .less
+loop-less c = step (next (c .before)) .moves .less
 
 loop-again : tie.Need-loop-again Inv-loop μ-loop
 loop-again c =
-    let k = c .before .before .before in
+    let k = next (c .before) in
     let s = step k in
-    (s .passes, k .before .before .before .loop .inv .1 ∙ differ-more (s .moves .rest) (sym (c .before .clashes-behind .ensures) ∙ c .if1 .left))
+    (s .passes, at-loop k .loop .inv .1 ∙ differ-more (s .moves .rest) (sym (c .before .clashes-behind .ensures) ∙ c .if1 .left))
 
 enum-told : tie.Need-enum-told Inv-loop μ-loop
 enum-told c = search needs
@@ -64,6 +78,7 @@ pairs-differ-spec =
     (tie.spec
     Inv-loop
     μ-loop
+    fold-table-requires
     loop-holds
     advance-requires
     enum-known-e

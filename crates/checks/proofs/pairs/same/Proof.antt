@@ -64,7 +64,7 @@ returns-2 c =
     let told = by-name c in
     let s = told .before .before .before in
     let one = name-part (now (s .args .image)) (s .args .d) (s .pre .0) in
-    let two = name-part (now (s .args .image)) (s .args .e) (s .pre .1) in
+    let two = name-part (now (s .args .image)) (s .args .e) (s .pre .1 .0) in
     same-named _ _ _ _ _ _ (told .enum-told2 .given .1) (c .same-name .ensures) one two
 
 pub same-spec : {M : Type 1} → statement M

@@ -52,7 +52,7 @@ returns-2 c =
     let m = c .before in
     let told = by-name m in
     let s = told .before .before .before in
-    home-name _ _ _ _ _ (told .enum-told2 .given .1) (c .spread2 .ensures) (m .hash-name .ensures) (name-part (now (s .args .image)) (s .args .e) (s .pre))
+    home-name _ _ _ _ _ (told .enum-told2 .given .1) (c .spread2 .ensures) (m .hash-name .ensures) (name-part (now (s .args .image)) (s .args .e) (s .pre .0))
 
 pub home-spec : {M : Type 1} → statement M
 home-spec =

@@ -11,34 +11,40 @@ use Rattle.checks.proofs.table.insert_all.Statement.{statement}
 use Rattle.checks.proofs.table.insert_all.Tie as tie
 
 abbrev Inv-loop : tie.InvT-loop
-Inv-loop image field table₀ c₀ table c = Passes image c × Kept field image (restOf image c₀) (restOf image c) table
+Inv-loop image field fold table₀ c₀ table c = Passes image c × Kept field image (restOf image c₀) (restOf image c) table
 
 abbrev μ-loop : tie.MeasureT-loop
-μ-loop image field table₀ c₀ table c = ahead c
+μ-loop image field fold table₀ c₀ table c = ahead c
 
 -- the loop's test, from the next entry on
 abbrev at-loop : tie.After-e Inv-loop μ-loop → tie.At-loop Inv-loop μ-loop
 at-loop c = c .before .before .before
 
+abbrev start : tie.At-loop Inv-loop μ-loop → tie.Start Inv-loop μ-loop
+start l = l .before .before .before
+
 -- the step to the next entry
 step : (c : tie.After-e Inv-loop μ-loop) → let l = at-loop c in
-    Advances (now (l .before .before .args .image)) (l .loop .c) (c .e .given .0 .0) (c .e .given .0 .1 .0)
+    Advances (now (start l .args .image)) (l .loop .c) (c .e .given .0 .0) (c .e .given .0 .1 .0)
 step c = advanced (c .before .before .advance .ensures) (c .e .given .1)
 
 -- the entry, from its probe on and from its free slot on
 abbrev probed : tie.After-probe Inv-loop μ-loop → tie.After-e Inv-loop μ-loop
-probed c = c .before .before .before
+probed c = c .before .before .before .before
 
 abbrev entry : tie.After-i Inv-loop μ-loop → tie.After-e Inv-loop μ-loop
 entry c = probed (c .before .before)
 
 -- the free slot for it
-free : (c : tie.After-i Inv-loop μ-loop) → let k = entry c in let l = at-loop k in let a = l .before .before .args in
+free : (c : tie.After-i Inv-loop μ-loop) → let k = entry c in let l = at-loop k in let a = start l .args in
     FreeAt (a .field) (now (a .image)) (l .loop .table) (k .e .given .0 .0) (c .i .given .0 .0)
 free c = found-free _ _ _ _ _ (c .before .before .probe .ensures) _ (c .i .given .1)
 
+fold-table-requires : tie.Need-fold-table-requires Inv-loop μ-loop
+fold-table-requires c κs = search needs
+
 loop-holds : tie.Need-loop-holds Inv-loop μ-loop
-loop-holds c = (c .before .pre .0, kept-none (c .before .pre .1))
+loop-holds c = let p = c .before .before .pre in (p .0, kept-none (p .1))
 
 advance-requires : tie.Need-advance-requires Inv-loop μ-loop
 advance-requires c κs = search needs
@@ -47,7 +53,10 @@ enum-known-e : tie.Need-enum-known-e Inv-loop μ-loop
 enum-known-e c = search needs
 
 probe-requires : tie.Need-probe-requires Inv-loop μ-loop
-probe-requires c κs = let k = c .before .before in (step k .moves .stands, at-loop k .loop .inv .1 .filled)
+probe-requires c κs =
+    let k = c .before .before .before in
+    let l = at-loop k in
+    (step k .moves .stands, (l .loop .inv .1 .filled, l .before .fold-table .ensures .0))
 
 enum-known-i : tie.Need-enum-known-i Inv-loop μ-loop
 enum-known-i c = search needs
@@ -104,6 +113,7 @@ insert-all-spec =
     (tie.spec
     Inv-loop
     μ-loop
+    fold-table-requires
     loop-holds
     advance-requires
     enum-known-e

@@ -13,10 +13,10 @@ use Rattle.checks.proofs.table.probe.Statement.{statement}
 use Rattle.checks.proofs.table.probe.Tie as tie
 
 abbrev Inv-loop : tie.InvT-loop
-Inv-loop image table e field i₀ i = Passed field image table (bytesAt image e) i
+Inv-loop image table e field fold i₀ i = Passed field image table (bytesAt image e) i
 
 abbrev μ-loop : tie.MeasureT-loop
-μ-loop image table e field i₀ i = 6400 - i
+μ-loop image table e field fold i₀ i = 6400 - i
 
 -- the function's start, from the loop's
 abbrev start : tie.At-loop Inv-loop μ-loop → tie.Start Inv-loop μ-loop
@@ -42,7 +42,7 @@ returns : tie.Need-returns Inv-loop μ-loop
 returns c = tt
 
 home-requires : tie.Need-home-requires Inv-loop μ-loop
-home-requires c κs = c .before .before .before .pre .0
+home-requires c κs = let p = c .before .before .before .pre in (p .0, p .1 .1)
 
 loop-holds : tie.Need-loop-holds Inv-loop μ-loop
 loop-holds c = passed-none _ _ _ _ _ (c .home .ensures)
@@ -58,13 +58,13 @@ returns-2 c =
     let l = c .before .before .before in record { small = l .before .before .if1 .left; within = omega arith; free = c .if2 .taken; passed = l .loop .inv }
 
 entry-in-slot-requires : tie.Need-entry-in-slot-requires Inv-loop μ-loop
-entry-in-slot-requires c κs = (held c, start (at-loop c) .pre .1 _ (held c))
+entry-in-slot-requires c κs = (held c, start (at-loop c) .pre .1 .0 _ (held c))
 
 same-requires : tie.Need-same-requires Inv-loop μ-loop
 same-requires c κs =
     let k = c .before in
     let s = start (at-loop k) in
-    (subst⁻¹ (Stands (now (s .args .image))) (c .entry-in-slot .ensures) (s .pre .1 _ (held k)), s .pre .0)
+    (subst⁻¹ (Stands (now (s .args .image))) (c .entry-in-slot .ensures) (s .pre .1 .0 _ (held k)), (s .pre .0, s .pre .1 .1))
 
 returns-3 : tie.Need-returns-3 Inv-loop μ-loop
 returns-3 c =

@@ -25,7 +25,7 @@ abbrev start : tie.Else1 → tie.Start
 start c = c .before .before .before
 
 abbrev past-facts : tie.After-any-bad → tie.Else1
-past-facts c = c .before .before .before
+past-facts c = c .before .before .before .before
 
 abbrev past-map : tie.After-new → tie.Else2
 past-map c = c .before .before
@@ -39,10 +39,10 @@ sound c =
     let s = start c in facts-sound (s .args .f) (now (s .args .image)) _ (c .before .facts-number .ensures) (c .if1 .left) (s .pre .long)
 
 decode-requires : tie.Need-decode-requires
-decode-requires c κs = let s = sound c in (s .layout .most, omega arith)
+decode-requires c κs = let s = sound (c .before) in (s .layout .most, omega arith)
 
 any-bad-requires : tie.Need-any-bad-requires
-any-bad-requires c κs = sound (c .before .before) .layout .most
+any-bad-requires c κs = sound (c .before .before .before) .layout .most
 
 -- what the decoded map says of check 5, the image's says
 five : (c : tie.After-any-bad)
@@ -81,7 +81,7 @@ map-number-requires c κs =
     let past = c .before in
     let new = past .before .before in
     let decode = past-map new .before .before .before in record {
-      facts = sound (decode .before);
+      facts = sound (decode .before .before);
       passes = record { fits = fits new; good = directory-passes _ _ _ _ (past .before .directory-number .ensures) (past .if3 .left) };
       decoded = decode .decode .ensures;
     }

@@ -4,27 +4,25 @@ use mathlib.Core.Path.{_≡_, refl, sym, _∙_}
 use native.Mathlib.Omega.{arith}
 use lib.ListN.{length, drop}
 use denote.Ref.{now}
+use Rattle.model.specs.Bytes.{byte}
 use Rattle.model.specs.Directory.{sameName}
+use Rattle.directory.specs.Folding.{fold}
 use Rattle.directory.proofs.Same.{lengths-differ, name-same, name-differs, name-end}
-use borrow.Author.Needs.{needs}
 use Rattle.directory.proofs.names.same_name.Statement.{statement}
 use Rattle.directory.proofs.names.same_name.Tie as tie
 
 abbrev Inv-loop : tie.InvT-loop
-Inv-loop a b i₀ i = (length a ≡ length b) × (i ≤ length a) × (sameName (drop i a) (drop i b) ≡ sameName a b)
+Inv-loop a b fold i₀ i = (length a ≡ length b) × (i ≤ length a) × (sameName (drop i a) (drop i b) ≡ sameName a b)
 
 abbrev μ-loop : tie.MeasureT-loop
-μ-loop a b i₀ i = length a - i
+μ-loop a b fold i₀ i = length a - i
 
 abbrev start : tie.At-loop Inv-loop μ-loop → tie.Start Inv-loop μ-loop
-start l = l .before .before .before .before
+start l = l .before .before
 
--- the first byte's fold, from the second's, and the loop's test
-abbrev first : tie.After-fold2 Inv-loop μ-loop → tie.After-fold Inv-loop μ-loop
-first c = c .before .before
-
-abbrev at-loop : tie.After-fold2 Inv-loop μ-loop → tie.At-loop Inv-loop μ-loop
-at-loop c = first c .before .before .before
+-- the loop, from where the second name is read
+abbrev at-loop : tie.After-shared-slice-known2 Inv-loop μ-loop → tie.At-loop Inv-loop μ-loop
+at-loop c = c .before .before .before .before
 
 returns : tie.Need-returns Inv-loop μ-loop
 returns c = sym (lengths-differ _ _ (c .if1 .taken))
@@ -32,25 +30,43 @@ returns c = sym (lengths-differ _ _ (c .if1 .taken))
 loop-holds : tie.Need-loop-holds Inv-loop μ-loop
 loop-holds c = (omega arith, omega arith, refl)
 
-shared-slice-read-fold : tie.Need-shared-slice-read-fold Inv-loop μ-loop
-shared-slice-read-fold c = omega arith
+shared-slice-read-x : tie.Need-shared-slice-read-x Inv-loop μ-loop
+shared-slice-read-x c = omega arith
 
-fold-requires : tie.Need-fold-requires Inv-loop μ-loop
-fold-requires c κs = search needs
+cast-x : tie.Need-cast-x Inv-loop μ-loop
+cast-x c = omega (arith, c .shared-slice-known .given (c .before .before .loop .i))
 
-shared-slice-read-fold-2 : tie.Need-shared-slice-read-fold-2 Inv-loop μ-loop
-shared-slice-read-fold-2 c = omega arith
+element-copy-out-x : tie.Need-element-copy-out-x Inv-loop μ-loop
+element-copy-out-x c = omega (arith, c .shared-slice-known .given (c .before .before .loop .i))
 
-fold-requires-2 : tie.Need-fold-requires-2 Inv-loop μ-loop
-fold-requires-2 c κs = search needs
+shared-slice-read-y : tie.Need-shared-slice-read-y Inv-loop μ-loop
+shared-slice-read-y c = omega arith
+
+cast-y : tie.Need-cast-y Inv-loop μ-loop
+cast-y c = omega (arith, c .shared-slice-known2 .given (at-loop c .loop .i))
+
+element-copy-out-y : tie.Need-element-copy-out-y Inv-loop μ-loop
+element-copy-out-y c = omega (arith, c .shared-slice-known2 .given (at-loop c .loop .i))
+
+-- the table's entries for the two bytes are their folds
+abbrev here : tie.After-y Inv-loop μ-loop → tie.At-loop Inv-loop μ-loop
+here c = at-loop (c .before)
+
+left : (c : tie.After-y Inv-loop μ-loop) → let l = here c in let a = start l .args in
+    byte (now (a .fold)) (byte (now (a .a)) (l .loop .i)) ≡ fold (byte (now (a .a)) (l .loop .i))
+left c = let l = here c in start l .pre _ (omega (arith, c .before .before .before .shared-slice-known .given (l .loop .i)))
+
+right : (c : tie.After-y Inv-loop μ-loop) → let l = here c in let a = start l .args in
+    byte (now (a .fold)) (byte (now (a .b)) (l .loop .i)) ≡ fold (byte (now (a .b)) (l .loop .i))
+right c = let l = here c in start l .pre _ (omega (arith, c .before .shared-slice-known2 .given (l .loop .i)))
 
 returns-2 : tie.Need-returns-2 Inv-loop μ-loop
 returns-2 c =
     let k = c .before in
-    let l = at-loop k in
+    let l = here k in
     let a = start l .args in
-    sym (name-differs (now (a .a)) (now (a .b)) (l .loop .i) (omega arith) (omega arith)
-    (λ e. c .if2 .taken (first k .fold .ensures ∙ e ∙ sym (k .fold2 .ensures)))) ∙ l .loop .inv .2
+    sym (name-differs (now (a .a)) (now (a .b)) (l .loop .i) (omega arith) (omega arith) (λ e. c .if2 .taken (left k ∙ e ∙ sym (right k))))
+    ∙ l .loop .inv .2
 
 add-i : tie.Need-add-i Inv-loop μ-loop
 add-i c = omega arith
@@ -61,10 +77,9 @@ loop-less c = omega arith
 loop-again : tie.Need-loop-again Inv-loop μ-loop
 loop-again c =
     let k = c .before in
-    let l = at-loop k in
+    let l = here k in
     let a = start l .args in
-    let folds = sym (first k .fold .ensures) ∙ c .if2 .left ∙ k .fold2 .ensures in
-    let same = name-same (now (a .a)) (now (a .b)) (l .loop .i) (omega arith) (omega arith) folds in
+    let same = name-same (now (a .a)) (now (a .b)) (l .loop .i) (omega arith) (omega arith) (sym (left k) ∙ c .if2 .left ∙ right k) in
     (omega arith, omega arith, sym same ∙ l .loop .inv .2)
 
 returns-3 : tie.Need-returns-3 Inv-loop μ-loop
@@ -81,10 +96,12 @@ same-name-spec =
     μ-loop
     returns
     loop-holds
-    shared-slice-read-fold
-    fold-requires
-    shared-slice-read-fold-2
-    fold-requires-2
+    shared-slice-read-x
+    cast-x
+    element-copy-out-x
+    shared-slice-read-y
+    cast-y
+    element-copy-out-y
     returns-2
     add-i
     loop-less

@@ -32,7 +32,7 @@ returns : tie.Need-returns
 unfolding named
 returns c =
     let s = start c in
-    c .same-name .ensures ∙ ap (sameName (now (s .args .name))) (name-part (now (s .args .image)) (s .args .e) (s .pre))
+    c .same-name .ensures ∙ ap (sameName (now (s .args .name))) (name-part (now (s .args .image)) (s .args .e) (s .pre .0))
 
 pub has-name-spec : {M : Type 1} → statement M
 has-name-spec =

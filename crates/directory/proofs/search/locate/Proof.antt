@@ -16,7 +16,7 @@ use Rattle.directory.proofs.search.locate.Statement.{statement}
 use Rattle.directory.proofs.search.locate.Tie as tie
 
 abbrev Inv-loop : tie.InvT-loop
-Inv-loop image name c₀ place₀ c place =
+Inv-loop image name fold c₀ place₀ c place =
     Passes image c × (place + ahead c ≤ ahead c₀)
     × (any (named name) (restOf image c₀) ≡ any (named name) (restOf image c))
     × (first (named name) [] (restOf image c₀) ≡ first (named name) [] (restOf image c))
@@ -24,22 +24,29 @@ Inv-loop image name c₀ place₀ c place =
     × ((base blocks : ℕ) → Comes image base blocks c₀ → Comes image base blocks c)
 
 abbrev μ-loop : tie.MeasureT-loop
-μ-loop image name c₀ place₀ c place = ahead c
+μ-loop image name fold c₀ place₀ c place = ahead c
 
 -- the loop's test, from the next entry on
 abbrev at-loop : tie.After-e Inv-loop μ-loop → tie.At-loop Inv-loop μ-loop
 at-loop c = c .before .before .before
 
 abbrev start : tie.At-loop Inv-loop μ-loop → tie.Start Inv-loop μ-loop
-start l = l .before .before .before
+start l = l .before .before .before .before
+
+-- the next entry, from where its name is compared
+abbrev next : tie.After-has-name Inv-loop μ-loop → tie.After-e Inv-loop μ-loop
+next c = c .before .before .before
 
 -- the step to the next entry
 step : (c : tie.After-e Inv-loop μ-loop) → let l = at-loop c in
     Advances (now (start l .args .image)) (l .loop .c) (c .e .given .0 .0) (c .e .given .0 .1 .0)
 step c = advanced (c .before .before .advance .ensures) (c .e .given .1)
 
+fold-table-requires : tie.Need-fold-table-requires Inv-loop μ-loop
+fold-table-requires c κs = search needs
+
 loop-holds : tie.Need-loop-holds Inv-loop μ-loop
-loop-holds c = (c .before .before .pre, omega arith, refl, refl, omega arith, λ base blocks k. k)
+loop-holds c = (c .before .before .before .pre, omega arith, refl, refl, omega arith, λ base blocks k. k)
 
 advance-requires : tie.Need-advance-requires Inv-loop μ-loop
 advance-requires c κs = search needs
@@ -48,11 +55,11 @@ enum-known-e : tie.Need-enum-known-e Inv-loop μ-loop
 enum-known-e c = search needs
 
 has-name-requires : tie.Need-has-name-requires Inv-loop μ-loop
-has-name-requires c κs = step (c .before) .moves .stands
+has-name-requires c κs = let k = c .before .before in (step k .moves .stands, at-loop k .before .fold-table .ensures .0)
 
 returns : tie.Need-returns Inv-loop μ-loop
 returns c =
-    let k = c .before .before .before in
+    let k = next (c .before) in
     let l = at-loop k .loop in
     let m = step k .moves in
     let has = sym (c .before .has-name .ensures) ∙ c .if1 .taken in
@@ -67,14 +74,14 @@ returns c =
     (found, λ base blocks h. m .lies base blocks (l .inv .5 base blocks h))
 
 add-place : tie.Need-add-place Inv-loop μ-loop
-add-place c = omega (arith, step (c .before .before .before) .moves)
+add-place c = omega (arith, step (next (c .before)) .moves)
 
 loop-less : tie.Need-loop-less Inv-loop μ-loop
-loop-less c = step (c .before .before .before) .moves .less
+loop-less c = step (next (c .before)) .moves .less
 
 loop-again : tie.Need-loop-again Inv-loop μ-loop
 loop-again c =
-    let k = c .before .before .before in
+    let k = next (c .before) in
     let l = at-loop k .loop in
     let m = step k .moves in
     let not = sym (c .before .has-name .ensures) ∙ c .if1 .left in
@@ -103,6 +110,7 @@ locate-spec =
     (tie.spec
     Inv-loop
     μ-loop
+    fold-table-requires
     loop-holds
     advance-requires
     enum-known-e
