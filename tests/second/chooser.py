@@ -5,6 +5,7 @@ order, e.g. ('W', name, fork, offset, data, changed).
 """
 
 import maker
+from spelling import fold
 
 FAR = (1 << 16, 1 << 32, (1 << 32) + 1, 1 << 63, (1 << 64) - 1)
 
@@ -57,11 +58,11 @@ def missing_name(rng, state):
         elif kind == 1:
             name = near + maker.any_name(rng, 1)
         elif kind == 2:
-            name = maker.near_name(rng, near) or near
+            name = maker.near_name(rng, near)
         else:
             name = maker.any_name(rng, maker.name_length(rng))
-        taken = {other.upper() for other in state.names}
-        if 1 <= len(name) <= 255 and name.upper() not in taken:
+        taken = {fold(other) for other in state.names}
+        if 1 <= len(name) <= 255 and fold(name) not in taken:
             return name
 
 

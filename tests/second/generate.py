@@ -16,11 +16,13 @@ import os
 import random
 import sys
 
+import accents
 import chooser
 import hall
 import listing
 import maker
 import replay
+import spelling
 import tapes
 import water
 import wrapped_runs
@@ -32,7 +34,7 @@ READING = replay.READING
 ALL = READING + replay.CHANGING
 
 # stdin has fewer bytes than this
-LARGEST = {'reading': 4000000, 'all': 16000000}
+LARGEST = {'reading': 4000000, 'all': 17000000}
 FEWEST_CALLS = {'reading': 2000, 'all': 6000}
 FEWEST_EACH = 10
 
@@ -126,15 +128,17 @@ def large_reading(tape, shapes):
 
 
 def folding(tape):
-    """Every name of one byte, where only a to z equal others."""
+    """Every name of one byte, among files that have one name of each two
+    equal ones."""
     rng = random.Random(13)
-    m = maker.every_byte(rng)
-    tape.add('I', m.image())
-    tape.add('C')
-    for b in range(256):
-        tape.add('F', bytes([b]))
-    for name in (b'', b'\0\0', b'AA', b'zz'):
-        tape.add('F', name)
+    for left_out in (spelling.LOWER, spelling.UPPER):
+        m = maker.every_byte(rng, left_out)
+        tape.add('I', m.image())
+        tape.add('C')
+        for b in spelling.BYTES:
+            tape.gives(0, 'F', bytes([b]))
+        for name in (b'', b'\0\0', b'AA', b'zz', b'\x83\x83', b'\x8E\x8E'):
+            tape.add('F', name)
 
 
 def long_names_reading(tape, count):
@@ -423,6 +427,7 @@ def all_list():
     last_numbers(tape, 12)
     locks(tape, 20)
     long_names_changes(tape, 10)
+    accents.runs(tape)
     large_changes(tape)
     wrapped_runs.runs(tape)
     return tape
@@ -450,8 +455,10 @@ def make_list(calls):
                  tape.by_length[tag, kind])
     if any(tape.by_length['N', kind] for kind in tapes.LONG):
         raise SystemExit('create makes a long name')
-    for text in tapes.MUST_MEET if calls == 'all' else ():
-        hold(text, tape.met[text])
+    if calls == 'all':
+        for text in tapes.MUST_MEET:
+            hold(text, tape.met[text])
+        tape.accents.hold_ways()
     if sum(counts.values()) < FEWEST_CALLS[calls]:
         raise SystemExit('too few calls')
     if len(tape.input()) >= LARGEST[calls]:
@@ -477,6 +484,8 @@ def show_counts(tape, sizes):
     show_table('length', 'I' + ALL[1:], tapes.LENGTHS, tape.by_length)
     for text in tapes.MUST_MEET:
         print('%6d %s' % (tape.met[text], text))
+    for count, text in tape.accents.fewest():
+        print('%6d %s, at least' % (count, text))
     for path, data in sizes.items():
         print('%9d %s' % (len(data), path))
 
@@ -585,6 +594,12 @@ def bad_for_list(rng):
               'list-hall-and-one': hall.hall() + b'\0'}
     for i in range(40):
         inputs['list-volume-%02d' % i] = small_volume(rng, i).image()
+    for i, couple in enumerate(accents.WORDS):
+        for count in (2, 12):
+            inputs['list-both-spellings-%02d-%d' % (i, count)] = (
+                accents.together(rng, couple, count).image())
+        inputs['list-near-misses-%02d' % i] = accents.roomy(
+            rng, [couple[0], accents.beside(couple[0], i)]).image()
     for number in range(1, 11):
         kinds = [kind for kind in maker.DAMAGES if kind[0] == number]
         for i, kind in enumerate(rng.sample(kinds, 3)):

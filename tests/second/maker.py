@@ -11,6 +11,8 @@ have up to 255 bytes, as on old volumes, though create takes no more than 31.
 import copy
 import struct
 
+import spelling
+
 TOP = 4294967295
 
 
@@ -140,6 +142,7 @@ class Made:
 # Names
 
 EDGE_BYTES = b'@AZ[`az{\x00\x1f\x20\x7e\x7f\x80\xc1\xe1\xda\xfa\xff:/?'
+ACCENTED_BYTES = bytes(sorted(spelling.HIGH)) + b'aceinouyACEINOUY 1'
 
 
 def some_bytes(rng, length):
@@ -149,45 +152,57 @@ def some_bytes(rng, length):
 
 
 def any_name(rng, length):
-    kind = rng.randrange(4)
+    kind = rng.randrange(5)
     if kind == 0:
         return some_bytes(rng, length)
     if kind == 1:
         return bytes(rng.choice(EDGE_BYTES) for _ in range(length))
+    if kind == 2:
+        return accented_name(rng, length)
     letters = b'abcdefghijklmnopqrstuvwxyzABCDEFGHIJKLMNOPQRSTUVWXYZ0123456789 '
     return bytes(rng.choice(letters) for _ in range(length))
 
 
+def accented_name(rng, length):
+    return bytes(rng.choice(ACCENTED_BYTES) for _ in range(length))
+
+
 def near_name(rng, name):
-    """A name that differs from this one in bit 5 of a byte that is no letter,
-    so that a careless folding takes the two for equal."""
-    places = [i for i, b in enumerate(name)
-              if not (0x41 <= b & 0xDF <= 0x5A and b < 0x80)]
-    if not places:
-        return None
-    i = rng.choice(places)
-    return name[:i] + bytes([name[i] ^ 0x20]) + name[i + 1:]
+    """A name that differs from this one in one byte, so that a careless
+    folding takes the two for equal."""
+    i = rng.randrange(len(name))
+    return (name[:i] + bytes([rng.choice(spelling.NEAR[name[i]])])
+            + name[i + 1:])
 
 
-def new_name(rng, length, used):
+def new_name(rng, length, used, some_name=any_name):
     """A name that equals none of the used ones without case."""
-    folded = {name.upper() for name in used}
+    folded = {spelling.fold(name) for name in used}
     same = [name for name in used if len(name) == length]
     for _ in range(100):
-        name = None
         if same and rng.random() < 0.2:
             name = near_name(rng, rng.choice(same))
-        if name is None:
-            name = any_name(rng, length)
-        if name.upper() not in folded:
+        else:
+            name = some_name(rng, length)
+        if spelling.fold(name) not in folded:
             return name
     return None
 
 
 def other_case(rng, name):
-    """The same name with the case of some letters changed."""
-    return bytes(b ^ 0x20 if 0x41 <= b & 0xDF <= 0x5A and b < 0x80
-                 and rng.random() < 0.5 else b for b in name)
+    """The same name with the case of some letters changed, accented ones
+    too."""
+    return bytes(other if other != b and rng.random() < 0.5 else b
+                 for b, other in zip(name, spelling.swapped(name)))
+
+
+PLACES = ('first', 'middle', 'last')
+
+
+def put(place, byte, text=b'12'):
+    """A name that has this byte at one of the PLACES."""
+    at = {'first': 0, 'middle': len(text) // 2, 'last': len(text)}[place]
+    return text[:at] + bytes([byte]) + text[at:]
 
 
 def name_length(rng):
@@ -515,13 +530,31 @@ def rich(rng, per=None, **want):
             return m
 
 
-def every_byte(rng):
-    """A file for each name of one byte, a to z left out since they equal A to
-    Z, in any order."""
-    names = [bytes([b]) for b in range(256) if not 0x61 <= b <= 0x7A]
+def directory_for(names):
+    """The directory blocks that these names fill."""
+    return len(given_names(names, 0))
+
+
+def every_byte(rng, left_out=spelling.LOWER, place='first', text=b''):
+    """A file for each byte at a place of the name, of two equal bytes only
+    one, in any order."""
+    names = [put(place, b, text) for b in spelling.BYTES if b not in left_out]
     rng.shuffle(names)
-    return make(rng, limit=36, per=1, n=2, dir_length=27, locked=False,
-                next_kind='small', names=names)
+    return make(rng, limit=9, per=1, n=2, dir_length=directory_for(names) + 1,
+                locked=False, file_locks=0, next_kind='small', names=names)
+
+
+def accented_names(rng, count, **want):
+    """This many files with short accented names, and some blocks."""
+    names = []
+    while len(names) < count:
+        name = new_name(rng, rng.choice((1, 2, 2, 3, 3, 4, 12)), names,
+                        accented_name)
+        if name is not None:
+            names.append(name)
+    return make(rng, names=names, **{
+        'limit': 9, 'per': 1, 'n': 4, 'dir_length': directory_for(names) + 1,
+        'locked': False, 'next_kind': 'small', **want})
 
 
 def with_names(rng, names, **want):
@@ -807,6 +840,14 @@ def _(rng, m):
     letter = rng.choice(b'aAzZmM')
     one.name = one.name[:-1] + bytes([letter])
     two.name = one.name.swapcase()
+
+
+@damage(7, 'two names equal but for accents')
+def _(rng, m):
+    one, two = sorted(rng.sample(m.files(), 2), key=lambda f: len(f.name))
+    letter = rng.choice(rng.choice(spelling.ACCENTS))
+    one.name = one.name[:-1] + bytes([letter])
+    two.name = spelling.swapped(one.name)
 
 
 # 8: forks

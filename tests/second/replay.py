@@ -6,6 +6,7 @@ for them.
 """
 
 from collections import Counter
+import operator
 import struct
 import sys
 
@@ -108,19 +109,19 @@ def record(call):
 # Lines
 
 PIECE = 512
+# 31^512 down to 31^0
+POWERS = [pow(31, n, 1 << 32) for n in range(PIECE, -1, -1)]
 piece_sums = {}                 # sums of runs seen before, for speed
 
 
 def piece_sum(piece):
-    s = 0
-    for byte in piece:
-        s = (31 * s + byte) & 0xFFFFFFFF
-    return s
+    return sum(map(operator.mul, piece, POWERS[PIECE + 1 - len(piece):]))
 
 
 def total(data):
     """SUM: from 0, for each byte s becomes (31 s + byte) mod 2^32.  It goes
-    by runs of 512 bytes: a run of n bytes turns s into 31^n s + its own sum.
+    by runs of 512 bytes: a run of n bytes turns s into 31^n s + its own sum,
+    where each byte counts 31^k times if k bytes follow it.
     """
     data = bytes(data)
     s = 0
@@ -129,7 +130,7 @@ def total(data):
         own = piece_sums.get(piece)
         if own is None:
             own = piece_sums[piece] = piece_sum(piece)
-        s = (s * pow(31, len(piece), 1 << 32) + own) & 0xFFFFFFFF
+        s = (s * POWERS[PIECE - len(piece)] + own) & 0xFFFFFFFF
     return s
 
 

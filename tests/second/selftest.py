@@ -3,8 +3,8 @@
 Random runs of all nine calls start from made volumes.  After every call the
 image must be accepted, must read as a plain history says, and must equal,
 byte for byte, what the maker's writer gives for the same change made in plain
-lists.  Names at the edges of 12, 21 and 14 and old long names run so too, disks
-inside wrapped files, and the cases P1 to P12.
+lists.  Names at the edges of 12, 21 and 14, old long names and accented names
+run so too, disks inside wrapped files, and the cases P1 to P12.
 """
 
 import random
@@ -12,6 +12,8 @@ import sys
 import time
 import unittest
 
+import accent_notes
+import accents
 import chooser
 import diskcopy
 import generate
@@ -19,6 +21,7 @@ import hall
 import listing
 import maker
 import replay
+import spelling
 import volume
 import wrapper
 
@@ -28,8 +31,14 @@ CALLS = 60
 KINDS = 'CEFBRNNNWWWWWWUUUUDD'
 
 
+# the letters of document 02's pairs, and a to z
+LETTERS = 'àäãåçéñöõüæøœ' + 'abcdefghijklmnopqrstuvwxyz'
+UPPER = str.maketrans(LETTERS, LETTERS.upper())
+
+
 def key(name):
-    return bytes(name).upper()
+    """Equal for equal names: as text, and these letters upper."""
+    return bytes(name).decode('mac_roman').translate(UPPER)
 
 
 def fewest(length, a):
@@ -410,17 +419,6 @@ class Runs(unittest.TestCase):
             self.assertEqual(volume.check(image)[0], 8)
         self.assertLess(time.perf_counter() - start, 2)
 
-    def test_folding(self):
-        """Of all names of one byte, only a to z equal others."""
-        m = maker.every_byte(random.Random(SEED + 5))
-        image = m.image()
-        names = [file.name for file in m.files()]
-        for b in range(256):
-            number, place, entry = volume.find(image, bytes([b]))
-            self.assertEqual(number, 0)
-            self.assertEqual(entry.name, bytes([b]).upper())
-            self.assertEqual(names[place], entry.name)
-
     def test_flips(self):
         """Random damage never breaks a call."""
         rng = random.Random(SEED + 3)
@@ -443,7 +441,10 @@ class Runs(unittest.TestCase):
         rng = random.Random(SEED + 4)
         for size in (0, 1, 511, 512, 513, 5000):
             data = maker.some_bytes(rng, size)
-            self.assertEqual(replay.total(data), replay.piece_sum(data))
+            s = 0
+            for byte in data:
+                s = (31 * s + byte) % 4294967296
+            self.assertEqual(replay.total(data), s)
 
 
 OLD = [letter * length for letter, length in (
@@ -581,6 +582,130 @@ class Names(unittest.TestCase):
 
 def words(text):
     return bytes.fromhex(text)
+
+
+def single(b):
+    return bytes([b])
+
+
+class Accents(unittest.TestCase):
+    """The equal bytes of T-03 in document 02, and what they do to 7, 13 and
+    14."""
+
+    def test_pairs(self):
+        """Each listed pair is a small letter of Mac OS Roman and its capital;
+        the unlisted ones are all the others."""
+        self.assertEqual(len(spelling.ACCENTS), 13)
+        self.assertEqual(len(spelling.ACCENTED), 26)
+        for lower, upper in spelling.ACCENTS + spelling.OTHERS:
+            letter = single(lower).decode('mac_roman')
+            self.assertEqual(letter.upper(), single(upper).decode('mac_roman'))
+            self.assertNotEqual(lower, upper)
+        found = []
+        for b in range(0x80, 0x100):
+            letter = single(b).decode('mac_roman')
+            upper = letter.upper().encode('mac_roman', 'ignore')
+            if letter.upper() != letter and len(upper) == 1 and upper[0] > 127:
+                found.append((b, upper[0]))
+        self.assertEqual(sorted(spelling.ACCENTS + spelling.OTHERS), found)
+
+    def test_equal_bytes(self):
+        """All 256 by 256: equal are a byte and itself, a letter in both cases
+        and a listed pair both ways, and no others."""
+        wanted = {(b, b) for b in range(256)}
+        for i in range(26):
+            wanted |= {(0x61 + i, 0x41 + i), (0x41 + i, 0x61 + i)}
+        for one, two in spelling.ACCENTS:
+            wanted |= {(one, two), (two, one)}
+        self.assertEqual(len(wanted), 256 + 2 * (26 + 13))
+        equal = {(one, two) for one in range(256) for two in range(256)
+                 if spelling.fold(single(one)) == spelling.fold(single(two))}
+        self.assertEqual(equal, wanted)
+        self.assertEqual(equal, {
+            (one, two) for one in range(256) for two in range(256)
+            if key(single(one)) == key(single(two))})
+
+    def test_fold(self):
+        self.assertEqual(len(spelling.FOLD), 256)
+        for b in range(256):
+            folded = spelling.fold(single(b))
+            self.assertEqual(spelling.fold(folded), folded)
+            self.assertEqual(spelling.fold(spelling.swapped(single(b))), folded)
+            self.assertEqual(
+                spelling.swapped(spelling.swapped(single(b))), single(b))
+        for lower, upper in spelling.EQUAL:
+            self.assertEqual(spelling.fold(single(lower)), single(upper))
+            self.assertEqual(spelling.swapped(single(upper)), single(lower))
+
+    def test_near(self):
+        for b in range(256):
+            self.assertGreaterEqual(len(spelling.NEAR[b]), 2)
+            for near in spelling.NEAR[b]:
+                self.assertNotEqual(key(single(near)), key(single(b)))
+        for one, two, miss in (
+                ('été', 'étè', True), ('été', 'ÉTè', True),
+                ('Été', 'Ête', False), ('été', 'ÉTÉ', False),
+                ('été', 'ét', False), ('été', 'eté', True),
+                ('a1', 'a2', False)):
+            self.assertEqual(spelling.near_miss(
+                accents.mac(one), accents.mac(two)), miss, (one, two))
+
+    def test_every_byte(self):
+        for left_out in (spelling.LOWER, spelling.UPPER):
+            for place in maker.PLACES:
+                m = maker.every_byte(random.Random(SEED + 5), left_out, place,
+                                     b'xy')
+                image = m.image()
+                names = [key(file.name) for file in m.files()]
+                self.assertEqual(len(names), 217)
+                for b in range(256):
+                    name = maker.put(place, b, b'xy')
+                    number, at, entry = volume.find(image, name)
+                    self.assertEqual((number, names[at]), (0, key(name)))
+                    self.assertEqual(key(entry.name), key(name))
+
+    def test_both_spellings(self):
+        """Accepted before, and 7 now; near misses are accepted."""
+        rng = random.Random(SEED + 9)
+        for way in accent_notes.WAYS:
+            for count in (2, 3, 4, 5, 6, 7, 12, 30, 200):
+                couple = accents.two_spellings(rng, way)
+                m = accents.together(rng, couple, count)
+                image = m.image()
+                self.assertIsNotNone(accent_notes.before(image))
+                self.assertEqual(volume.check(image), (7, volume.NO_FACTS))
+                file = [f for f in m.files() if f.name == couple[1]][0]
+                file.name = accents.beside(couple[1], count)
+                names = {key(f.name) for f in m.files()}
+                self.assertEqual(volume.check(m.image())[0],
+                                 0 if len(names) == count else 7)
+
+    def test_runs(self):
+        """Short accented names, so that near and equal ones often meet."""
+        rng = random.Random(SEED + 10)
+        seen = {}
+        for i in range(40):
+            m = maker.accented_names(rng, rng.choice((1, 2, 5, 6, 9, 20)))
+            one_run(rng, Run(m), CALLS, seen)
+        for tag, number in [(tag, 0) for tag in 'FBRNWUD'] + [
+                (tag, 13) for tag in 'FBRWUD'] + [('N', 14)]:
+            self.assertGreaterEqual(seen.get((tag, number), 0), 5,
+                                    (tag, number))
+
+    def test_words(self):
+        for own, other in accents.WORDS:
+            run = Run(accents.roomy(random.Random(SEED + 11), [b'Other']))
+            self.assertEqual(run.create(own), 0)
+            self.assertEqual(run.create(other), 14)
+            self.assertEqual(run.call('W', other, 0, 0, b'new', 5), 0)
+            self.assertEqual(run.call('R', own, 0, 0, 5), 0)
+            self.assertEqual(run.create(accents.beside(own, 1)), 0)
+            self.assertEqual(run.call('D', other), 0)
+            self.assertEqual(run.call('F', own), 13)
+            self.assertEqual(run.call('D', accents.beside(own, 1)), 0)
+            self.assertEqual(run.create(other), 0)
+            self.assertEqual(run.call('F', own), 0)
+            self.assertEqual(run.m.files()[-1].name, other)
 
 
 def plain_sum(data):

@@ -3,6 +3,7 @@ counts of what the calls met."""
 
 from collections import Counter
 
+import accent_notes
 import chooser
 import diskcopy
 import maker
@@ -31,7 +32,8 @@ CHANGES = ['%s %s tags' % (tag, text) for tag in replay.CHANGING
 
 MUST_MEET = (['create: ' + text for text in CREATES]
              + ['wrap: ' + text for text in WRAPS]
-             + ['changed: ' + text for text in CHANGES])
+             + ['changed: ' + text for text in CHANGES]
+             + ['accents: ' + text for text in accent_notes.TEXTS])
 
 
 def length_kind(name):
@@ -46,22 +48,29 @@ def rooms(v):
     return [v.dir_block_end(d) - at for d, at in enumerate(v.ends)]
 
 
-def create_met(v, name, number):
-    """What a create met, as texts of CREATES; v is the volume after it."""
+def create_met(read, name, number):
+    """What a create met, as texts of CREATES; read gives the volume after
+    it."""
+    kind = length_kind(name)
+    if number == 11 and kind in LONG:
+        yield '11, long name'
+    elif number == 14 and kind == '31':
+        yield '14, name of 31'
+    elif number in (0, 18, 21):
+        yield from room_met(read(), name, number)
+
+
+def room_met(v, name, number):
     kind = length_kind(name)
     size = volume.even(volume.ENTRY_HEAD + len(name))
     most = max(rooms(v))
-    place = v.places.get(volume.fold(name))
+    place = v.places.get(v.fold(name))
     if number == 0:
         d = v.entries[place].dir_block
         if rooms(v)[d] == 0:
             yield '0, fills its block'
         if any(room > volume.ENTRY_HEAD for room in rooms(v)[:d]):
             yield '0, passes a block with room for less'
-    elif number == 11 and kind in LONG:
-        yield '11, long name'
-    elif number == 14 and kind == '31':
-        yield '14, name of 31'
     elif number == 18 and most == size - 2:
         yield '18, two bytes short'
     elif number == 21:
@@ -93,18 +102,21 @@ class Tape:
     """A list of records with the lines expected for them.  by_length counts,
     for each kind of length, the successes of each call on such a name and,
     under I, the accepted volumes that hold one, all on bare images; met counts
-    what the calls met, by the texts of MUST_MEET."""
+    what the calls met, by the texts of MUST_MEET; accents has more counts of
+    accented names."""
 
     def __init__(self):
         self.records = []
         self.machine = replay.Machine()
         self.by_length = Counter()
         self.met = Counter()
+        self.accents = accent_notes.Notes()
 
     def add(self, *call):
         record = replay.record(call)
         self.records.append(record)
         self.machine.run(record)
+        self.note_accents(call)
         if call[0] == 'I':
             self.note_volume()
         elif call[0] == 'K':
@@ -121,6 +133,14 @@ class Tape:
 
     def note(self, what, texts):
         self.met.update('%s: %s' % (what, text) for text in texts)
+
+    def note_accents(self, call):
+        if call[0] in 'IX':
+            self.note('accents', self.accents.image(self.inside()))
+        elif call[0] != 'K':
+            before = 'X' if self.machine.wrapped else ''
+            self.note('accents', [before + text for text in self.accents.call(
+                call, self.number())])
 
     def note_change(self, tag):
         if tag in replay.CHANGING and self.number() == 0:
@@ -146,14 +166,25 @@ class Tape:
             if length_kind(call[1]) in LONG:
                 self.note('create', ['1 to 10, long name'])
         elif tag == 'N':
-            self.note('create', create_met(self.volume(), call[1], number))
+            self.note('create', create_met(self.volume, call[1], number))
+
+    def expect(self, number, text):
+        if self.number() != number:
+            raise SystemExit('%s: %d for %d' % (text, self.number(), number))
+
+    def gives(self, number, *call):
+        """Adds a call that must give this number."""
+        self.add(*call)
+        self.expect(number, call)
+
+    def inside(self):
+        """The image, or the data inside where it is a wrapped file."""
+        image = self.machine.image
+        return diskcopy.inside(image) if self.machine.wrapped else image
 
     def volume(self):
-        """The volume as it is, inside its file where that is wrapped."""
-        image = self.machine.image
-        if self.machine.wrapped:
-            image = diskcopy.inside(image)
-        return volume.Volume(image)
+        """The volume as it is."""
+        return volume.Volume(self.inside())
 
     def state(self):
         return chooser.state_of_volume(self.volume())

@@ -1,5 +1,5 @@
 """The nine calls on a volume image, straight from the rules of document 01
-and, for number 21, of T-01 in document 02.
+and, for number 21, of T-01 in document 02.  Names compare by spelling.py.
 
 The image is a bytearray.  Each call gives the number first: 0, or the number
 of the refusal.  A refusal changes no byte and its other results are zero.
@@ -17,6 +17,8 @@ of the refusal.  A refusal changes no byte and its other results are zero.
 
 from collections import namedtuple
 import struct
+
+import spelling
 
 DATA, RESOURCE = 0, 1
 
@@ -45,13 +47,6 @@ HEAD = struct.Struct('>BB16sIHIIHIIIIB')        # the 51 bytes before the name
 FORK = struct.Struct('>HII')
 FORK_AT = (22, 32)
 CHANGED_AT = 46
-
-# a to z become A to Z, every other byte stays
-FOLD = bytes(b - 32 if 0x61 <= b <= 0x7A else b for b in range(256))
-
-
-def fold(name):
-    return bytes(name).translate(FOLD)
 
 
 class Refused(Exception):
@@ -94,6 +89,8 @@ class Placed:
 class Volume:
     """All that the checks 1 to 10 read.  Raises Refused at the first check
     that fires."""
+
+    fold = staticmethod(spelling.fold)
 
     def __init__(self, image):
         self.image = image
@@ -189,7 +186,7 @@ class Volume:
             if number == 0 or number >= facts.next_number or number in numbers:
                 raise Refused(7)
             numbers.add(number)
-            key = fold(placed.entry.name)
+            key = self.fold(placed.entry.name)
             if key in self.places:
                 raise Refused(7)
             self.places[key] = place
@@ -247,7 +244,7 @@ class Volume:
 
     def place_of(self, name):
         self.refuse_name(name)
-        place = self.places.get(fold(name))
+        place = self.places.get(self.fold(name))
         if place is None:
             raise Refused(13)
         return place
@@ -372,7 +369,7 @@ def create(image, name, finder, created, changed):
         v.refuse_name(name)
         if len(name) > LONGEST_NEW:
             raise Refused(21)
-        if fold(name) in v.places:
+        if v.fold(name) in v.places:
             raise Refused(14)
         if v.facts.next_number == LAST_NUMBER:
             raise Refused(19)
