@@ -9,7 +9,9 @@
  * on an image has a second one whose name begins with mfs_wrapped_: it takes the whole file in the image's place and does the
  * same with the image inside. mfs_wrap makes a wrapped file of an image.
  *
- * Names are bytes in Mac OS Roman, with no zero at their end. Letters a to z equal A to Z; every other byte equals only itself.
+ * Names are bytes in Mac OS Roman, with no zero at their end. Two are equal where their bytes are: letters a to z equal A to Z,
+ * and the two bytes of each of these pairs, in hex, equal each other: 88 CB, 8A 80, 8B CC, 8C 81, 8D 82, 8E 83, 96 84, 9A 85,
+ * 9B CD, 9F 86, BE AE, BF AF, CF CE. Every other byte equals only itself.
  * Dates are seconds since 1 January 1904 in the local time of the machine that wrote them; they are handed out as stored.
  * Places count from 0.
  *

@@ -285,6 +285,24 @@ static void old_names(void)
     }
 }
 
+/* "Ete" with both its accents, in two spellings, and names that only look like it. */
+static void accents(void)
+{
+    static const uint8_t name[3] = {0x83, 't', 0x8e}, other[3] = {0x8e, 'T', 0x83}, near[3] = {0x83, 't', 0x8f};
+    mfs_find_answer f;
+
+    EXPECT(form->call.create(LENT(HALL), name, 3, finder, 1, 2) == MFS_SUCCESS);
+    keep(HALL);
+    f = form->call.find(LENT(HALL), other, 3);
+    EXPECT(f.number == MFS_SUCCESS && f.place == 2 && memcmp(f.entry.name, name, 3) == 0 && as_wanted(HALL));
+    refuses_create(HALL, other, 3, MFS_NAME_EXISTS);
+    refuses_find(HALL, near, 3, MFS_NOT_FOUND);
+    EXPECT(form->call.create(LENT(HALL), near, 3, finder, 1, 2) == MFS_SUCCESS);
+    EXPECT(form->call.check(LENT(HALL)).facts.files == 4 && form->call.find(LENT(HALL), near, 3).place == 3);
+    memcpy(image + ENTRY3 + 54 + 51, other, 3);
+    all_refuse(HALL, MFS_BAD_DIRECTORY);
+}
+
 /* 0 is the data fork; 1 and every number above it is the resource fork. */
 static void fork_numbers(void)
 {
@@ -627,6 +645,7 @@ static const struct test tests[] = {
     {"read: bytes, count and the buffer's rest", reads},
     {"create: every byte of the image", creates},
     {"old names above 31: every call but create", old_names},
+    {"find, create, check: accents in both spellings", accents},
     {"write, block, read, cut: the fork's number", fork_numbers},
     {"P1", p1},
     {"P2", p2},

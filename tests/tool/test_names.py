@@ -1,4 +1,4 @@
-"""Names of every byte, and dates from 0 to 4,294,967,295."""
+"""Names of every byte, in both spellings, and dates from 0 to 4,294,967,295."""
 
 import datetime
 import random
@@ -8,6 +8,13 @@ from support import Case, as_text, hall, maker, volume, water, with_names
 
 EPOCH = datetime.datetime(1904, 1, 1)
 LAST = 4294967295
+
+# the pairs that are equal beside the letters, lower and upper
+ACCENTS = [bytes.fromhex(pair) for pair in (
+    '88CB', '8A80', '8BCC', '8C81', '8D82', '8E83', '9684', '9A85', '9BCD',
+    '9F86', 'BEAE', 'BFAF', 'CFCE')]
+# the bytes that equal a lower number
+AGAIN = set(range(0x61, 0x7B)) | {max(pair) for pair in ACCENTS}
 
 
 class Names(Case):
@@ -21,7 +28,7 @@ class Names(Case):
         for b in range(256):
             name = b'n' + bytes([b])
             text = as_text(name)
-            number = 14 if 0x61 <= b <= 0x7A else 0
+            number = 14 if b in AGAIN else 0
             self.assertEqual(volume.create(
                 image, name, b'????????' + bytes(8), 5, 5), number)
             self.done('put', '--date=@5', '--as', text, self.image, '-')
@@ -32,14 +39,14 @@ class Names(Case):
         plain = self.done('list', self.image)
         for b in range(256):
             text = as_text(b'n' + bytes([b]))
-            if not 0x61 <= b <= 0x7A:
+            if b not in AGAIN:
                 self.assertIn('  %s\n' % text, table)
                 self.assertIn(b' n%c\n' % (b if 32 <= b < 127 else 63), plain)
             self.assertEqual(self.done('get', self.image, text), b'')
             self.assertEqual(
                 self.done('get', self.image, 'N\\x%02x' % b), b'')
         for b in range(256):
-            if not 0x61 <= b <= 0x7A:
+            if b not in AGAIN:
                 self.done('delete', self.image, 'n\\x%02X' % b)
                 self.assertEqual(volume.delete(image, b'n' + bytes([b])), 0)
         self.assertEqual(self.read(), image)
@@ -53,6 +60,51 @@ class Names(Case):
         self.failed('get', self.image, 'Releve\u0301s 1984')
         self.failed('get', self.image, b'Relev\x8es 1984')
         self.failed('get', self.image, 'Tariff\u3000')
+
+    def put(self, name, data):
+        self.done('put', '--date=@1', '--as', name, self.image, '-',
+                  stdin=data)
+
+    def test_both_spellings(self):
+        """One file under both, which keeps the name that it was made with."""
+        self.write(water())
+        for name, other in (('Été', 'été'), ('été', 'ÉTÉ')):
+            self.put(name, b'litres')
+            self.assertEqual(self.done('get', self.image, other), b'litres')
+            self.done('append', '--date=@1', self.image, other, '-',
+                      stdin=b' more')
+            self.assertEqual(self.done('get', self.image, name),
+                             b'litres more')
+            self.put(other, b'new')
+            table = self.done('list', '-l', self.image).decode('utf-8')
+            self.assertIn('  %s\n' % name, table)
+            self.assertNotIn('  %s\n' % other, table)
+            self.done('cut', '--date=@1', self.image, other, '2')
+            self.assertEqual(self.done('get', self.image, name), b'ne')
+            self.done('delete', self.image, other)
+            self.refused(13, 'get', self.image, name)
+            self.refused(13, 'get', self.image, other)
+
+    def test_near_misses(self):
+        """Letters of no pair that is listed are two names."""
+        self.write(with_names(b'x'))
+        for one, other in ('ûÛ', 'ïÏ', 'áÁ', 'èÈ', 'éÑ', '[{'):
+            self.put('n' + one, b'one')
+            self.refused(13, 'get', self.image, 'n' + other)
+            self.put('N' + other, b'other')
+            for name, data in ((one, b'one'), (other, b'other')):
+                self.assertEqual(self.done('get', self.image, 'n' + name),
+                                 data)
+                self.done('delete', self.image, 'n' + name)
+
+    def test_both_spellings_on_one_disk(self):
+        image = with_names(b'\x83t\x8e', b'\x83t\x8f')
+        self.write(image)
+        self.done('check', self.image)
+        at = image.index(b'\x83t\x8f')
+        image[at:at + 3] = b'\x8et\x8e'
+        self.write(image)
+        self.all_refuse(7)
 
     def test_no_output_but_text(self):
         """No control character reaches a terminal."""

@@ -177,11 +177,12 @@ class Reading(Case):
             self.assertEqual(self.read('out'), wanted)
             self.only('disk.img', 'out')
 
-    def test_names_without_case(self):
+    def test_names_in_other_spellings(self):
         self.write(water())
-        for name in ('WEEK 01', 'week 01', 'RELEVéS 1984'):
+        for name in ('WEEK 01', 'week 01', 'RELEVéS 1984', 'RELEVÉS 1984'):
             self.done('get', self.image, name)
-        self.refused(13, 'get', self.image, 'RELEVÉS 1984')
+        for name in ('RELEVèS 1984', 'RELEVÈS 1984', 'RELEVES 1984'):
+            self.refused(13, 'get', self.image, name)
 
 
 class Refused(Case):

@@ -12,6 +12,7 @@ mod foreign;
 mod images;
 mod measure;
 mod random;
+mod spelling;
 mod stack;
 mod volumes;
 

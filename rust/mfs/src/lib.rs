@@ -2,8 +2,9 @@
 //!
 //! A file is a run of bytes: an image, or an image wrapped as a Disk Copy 4.2 file. [`Volume`] says which, and has the
 //! calls of document 01, each on the file that it is given; what they answer and what they leave in the file is
-//! proved, this library over them is tested. Names are bytes in Mac OS Roman, compared without the case of a to z.
-//! Dates are seconds since 1 January 1904 by the clock of whoever wrote them.
+//! proved, this library over them is tested. Names are bytes in Mac OS Roman, compared without the case of a to z and of
+//! à ä ã å ç é ñ ö õ ü æ ø œ; every other byte equals only itself, so that û and Û differ. Dates are seconds since
+//! 1 January 1904 by the clock of whoever wrote them.
 //!
 //! ```
 //! use mfs::{Fork, Refusal, Volume};

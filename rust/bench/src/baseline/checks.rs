@@ -2,6 +2,7 @@
 
 use super::layout::{entry_at, get_u32, name_at, FIRST_BLOCK, FREE, LAST_OF_FORK};
 use super::map::{BlockMap, BLOCK_NUMBERS};
+use super::names::fold;
 use super::{Facts, Fork, ForkFacts, Refusal};
 
 /// Check 7: the count of files, their numbers and their names.
@@ -26,14 +27,14 @@ pub fn check_files(image: &[u8], facts: &Facts, entries: &[usize]) -> Result<(),
     Ok(())
 }
 
-/// Whether two names are equal without case.
+/// Whether two names are equal.
 fn names_repeat(image: &[u8], entries: &[usize]) -> bool {
     let total = entries.iter().map(|&at| name_at(image, at).len()).sum();
     let mut folded = Vec::with_capacity(total);
     for &at in entries {
         folded.extend_from_slice(name_at(image, at));
     }
-    folded.make_ascii_uppercase();
+    fold(&mut folded);
     let mut rest = folded.as_slice();
     let mut names: Vec<&[u8]> = entries
         .iter()

@@ -7,6 +7,7 @@ mod checks;
 mod directory;
 mod layout;
 mod map;
+mod names;
 mod types;
 mod volume;
 mod wrapped;

@@ -276,6 +276,38 @@ fn an_old_name_may_be_longer() {
 }
 
 #[test]
+fn accents_in_both_spellings() {
+    // "Été" and "été"
+    for (name, other) in [(b"\x83t\x8E", b"\x8Et\x8E"), (b"\x8Et\x8E", b"\x83t\x8E")] {
+        let mut image = hall_with(name);
+        assert_eq!(find(&image, other).unwrap().0, 2);
+        assert_eq!(create(&mut image, other, &[0; 16], 1, 2), Err(Refusal::NameExists));
+        assert_eq!(image, hall_with(name));
+        write(&mut image, other, Fork::Data, 0, &[7; 600], DATE).unwrap();
+        let mut buffer = [0; 700];
+        assert_eq!(read(&image, other, Fork::Data, 0, &mut buffer), Ok(600));
+        cut(&mut image, other, Fork::Data, 512, DATE).unwrap();
+        assert_eq!(chain_of(&image, other), [5]);
+        delete(&mut image, other).unwrap();
+        assert_eq!(check(&image).map(|facts| facts.files), Ok(2));
+    }
+}
+
+#[test]
+fn two_spellings_are_refused_by_7_and_near_misses_are_not() {
+    // è and È, Æ, Ñ
+    for miss in [0x8F, 0xE9, 0xAE, 0x84] {
+        let mut image = hall_with(b"\x8E");
+        create(&mut image, &[miss], &[0; 16], 1, 2).unwrap();
+        assert_eq!(check(&image).map(|facts| facts.files), Ok(4));
+        let name = DIRECTORY + 112 + entry_size(1) + entry_at::NAME;
+        assert_eq!(image[name], miss);
+        image[name] = 0x83;
+        assert_eq!(check(&image), Err(Refusal::Files));
+    }
+}
+
+#[test]
 fn blocks_that_reach_the_backup() {
     let mut image = images::one_fork();
     assert_eq!(check(&image).map(|facts| facts.allocation_blocks), Ok(391));

@@ -4,6 +4,7 @@ use super::checks::{check_blocks, check_files};
 use super::directory::{directory_blocks, end_of_entries, read_directory};
 use super::layout::*;
 use super::map::{decode_map, BlockMap};
+use super::names::equal;
 use super::{Facts, ForkFacts, Refusal};
 
 /// An accepted volume: its facts, its map, and where each entry begins, in directory order.
@@ -55,7 +56,7 @@ impl Volume {
         }
         self.entries
             .iter()
-            .position(|&at| name_at(image, at).eq_ignore_ascii_case(name))
+            .position(|&at| equal(name_at(image, at), name))
             .ok_or(Refusal::NoSuchFile)
     }
 

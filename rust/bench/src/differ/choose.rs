@@ -4,6 +4,7 @@ use crate::baseline::{self, Entry, Facts, ForkFacts};
 use crate::call::{Bytes, Call};
 use crate::images::{get2, DATA, HEADER, TAGS};
 use crate::random::Random;
+use crate::spelling::{near_miss, respell};
 use crate::volumes;
 
 /// The most bytes that are read or written.
@@ -82,7 +83,7 @@ fn target(random: &mut Random, image: &[u8]) -> Target {
     }
 }
 
-/// The name of a file, in any case; or one like it; or any bytes.
+/// The name of a file, in any spelling; or one like it; or any bytes.
 fn name(random: &mut Random, image: &[u8]) -> Vec<u8> {
     let entries = if image.len() < 4096 {
         Vec::new()
@@ -100,7 +101,7 @@ fn name(random: &mut Random, image: &[u8]) -> Vec<u8> {
         return bytes(random, length);
     }
     let mut name = volumes::name_at(image, entries[random.index(entries.len())]).to_vec();
-    volumes::other_case(random, &mut name);
+    respell(random, &mut name);
     match random.below(16) {
         0 => name.push(random.byte()),
         1 => {
@@ -109,6 +110,10 @@ fn name(random: &mut Random, image: &[u8]) -> Vec<u8> {
         2 if !name.is_empty() => {
             let at = random.index(name.len());
             name[at] ^= 1 << random.below(8);
+        }
+        3 if !name.is_empty() => {
+            let at = random.index(name.len());
+            name[at] = near_miss(random, name[at]);
         }
         _ => {}
     }

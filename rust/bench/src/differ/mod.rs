@@ -97,6 +97,10 @@ pub fn run(seed: u64, calls: u64) -> Result<Report, Box<Difference>> {
             let mut image = volumes::crowd(&mut differ.random);
             differ.kinds(Form::Bare, &mut image, &[0, 2, 5])?;
         }
+        if differ.random.once_in(2) {
+            let mut image = volumes::alike(&mut differ.random);
+            differ.kinds(Form::Bare, &mut image, &NINE)?;
+        }
         if differ.random.once_in(TURNS) {
             differ.wrapped(&shapes)?;
         }

@@ -1,8 +1,9 @@
 //! Damage to volumes.
 
-use super::{entries, name_at, other_case};
+use super::{entries, name_at};
 use crate::images::{get2, get4, put2, put4, put_map};
 use crate::random::Random;
+use crate::spelling::{near_miss, respell};
 
 /// One fault: aimed at one of the checks, or anywhere.
 pub fn damage(random: &mut Random, image: &mut Vec<u8>) {
@@ -147,23 +148,34 @@ fn damage_entry(random: &mut Random, image: &mut [u8], entries: &[usize]) {
     }
 }
 
-/// Two files get one number, or one name in another case.
+/// Two files get one number, or one name.
 pub fn repeat(random: &mut Random, image: &mut [u8], entries: &[usize]) {
+    if random.once_in(2) {
+        repeat_name(random, image, entries);
+        return;
+    }
     let one = entries[random.index(entries.len())];
     let two = entries[random.index(entries.len())];
-    if random.once_in(2) {
-        let number = get4(image, one + 18);
-        put4(image, two + 18, number);
-        return;
-    }
+    let number = get4(image, one + 18);
+    put4(image, two + 18, number);
+}
+
+/// Two files whose names have one length get one name in any spelling, or nearly.
+pub fn repeat_name(random: &mut Random, image: &mut [u8], entries: &[usize]) {
+    let one = entries[random.index(entries.len())];
     let mut name = name_at(image, one).to_vec();
-    if name.is_empty() || name.len() != name_at(image, two).len() {
+    let fits = |at: &usize| *at != one && name_at(image, *at).len() == name.len();
+    let others: Vec<usize> = entries.iter().copied().filter(fits).collect();
+    if name.is_empty() || others.is_empty() {
         return;
     }
-    other_case(random, &mut name);
-    if random.once_in(3) {
-        let last = random.index(name.len());
-        name[last] ^= 1 << random.below(8);
+    let two = others[random.index(others.len())];
+    respell(random, &mut name);
+    let at = random.index(name.len());
+    match random.below(6) {
+        0 => name[at] ^= 1 << random.below(8),
+        1 => name[at] = near_miss(random, name[at]),
+        _ => {}
     }
     image[two + 51..two + 51 + name.len()].copy_from_slice(&name);
 }

@@ -1,12 +1,15 @@
 //! Volumes of many shapes from a seed, and wrapped files.
 
+mod alike;
 mod damage;
 mod wrapped;
 
 use crate::images::{self, build, get2, FileSpec, ForkSpec, Geometry};
 use crate::random::Random;
+use crate::spelling::{letter, respell, uppers};
 use std::collections::HashSet;
 
+pub use alike::alike;
 pub use damage::damage;
 pub use wrapped::{damage_wrapped, disk_400k, wrap_up};
 
@@ -114,17 +117,11 @@ enum Names {
     Any,
     Long,
     Short,
-    Crowded(u32),
+    Accents,
+    Crowded(Vec<Vec<u8>>),
 }
 
 fn files(random: &mut Random, geometry: &Geometry, mut blocks: Vec<u16>) -> Vec<(usize, FileSpec)> {
-    let style = match random.below(8) {
-        0 => Names::Long,
-        1 => Names::Crowded(random.below(4096) as u32),
-        2 | 3 => Names::Any,
-        4 | 5 => Names::Few,
-        _ => Names::Short,
-    };
     let crowded = random.once_in(4).then(|| images::numbers_at(random.below(4096) as u32));
     let most = match random.below(10) {
         0 => 0,
@@ -132,6 +129,7 @@ fn files(random: &mut Random, geometry: &Geometry, mut blocks: Vec<u16>) -> Vec<
         6..=8 => random.index(geometry.directory_length * 9 + 1),
         _ => geometry.directory_length * 9,
     };
+    let style = style(random, most);
     let mut room = vec![512; geometry.directory_length];
     let (mut names, mut numbers) = (HashSet::new(), HashSet::new());
     let mut files = Vec::new();
@@ -141,7 +139,7 @@ fn files(random: &mut Random, geometry: &Geometry, mut blocks: Vec<u16>) -> Vec<
             Some(at) => at(i),
             None => random.between(1, 3 * most as u64 + 3) as u32,
         };
-        if !names.insert(name.to_ascii_uppercase()) || !numbers.insert(number) {
+        if !names.insert(uppers(&name)) || !numbers.insert(number) {
             continue;
         }
         let file = file(random, number, &name);
@@ -151,6 +149,18 @@ fn files(random: &mut Random, geometry: &Geometry, mut blocks: Vec<u16>) -> Vec<
     }
     share_out(random, geometry, &mut files, &mut blocks);
     files
+}
+
+/// A way to name so many files.
+fn style(random: &mut Random, files: usize) -> Names {
+    match random.below(10) {
+        0 => Names::Long,
+        1 => Names::Crowded(images::names_at(random.below(4096) as u32, 5, files)),
+        2 | 3 => Names::Any,
+        4 | 5 => Names::Few,
+        6 | 7 => Names::Short,
+        _ => Names::Accents,
+    }
 }
 
 fn file(random: &mut Random, number: u32, name: &[u8]) -> FileSpec {
@@ -189,7 +199,8 @@ fn name(random: &mut Random, style: &Names, i: usize) -> Vec<u8> {
                 .collect()
         }
         Names::Short => (0..random.between(1, 2)).map(|_| random.byte()).collect(),
-        Names::Crowded(place) => images::names_at(*place)(i),
+        Names::Accents => (0..random.between(1, 4)).map(|_| letter(random)).collect(),
+        Names::Crowded(names) => names[i].clone(),
     }
 }
 
@@ -226,20 +237,28 @@ pub fn crowd(random: &mut Random) -> Vec<u8> {
     } else {
         random.between(6, 90)
     } as usize;
-    let mut geometry = geometry(random);
-    geometry.directory_start = 4;
-    geometry.directory_length = count.div_ceil(9);
-    geometry.allocation_start = 4 + geometry.directory_length;
-    geometry.block_size = 512;
-    geometry.allocation_blocks = 4;
-    geometry.image_blocks = geometry.allocation_start + 6;
-    geometry.next_number = 311 * 65_536;
+    let geometry = few_blocks(random, count, 9);
     let mut image = build(&geometry, &crowding_files(random, count), &mut |_| ());
     if !random.once_in(3) {
         let entries = entries(&image);
         damage::repeat(random, &mut image, &entries);
     }
     image
+}
+
+/// A volume of four allocation blocks, with a directory for so many files, so many of them in each block.
+fn few_blocks(random: &mut Random, files: usize, in_block: usize) -> Geometry {
+    let directory_length = files.div_ceil(in_block);
+    Geometry {
+        directory_start: 4,
+        directory_length,
+        allocation_start: 4 + directory_length,
+        block_size: 512,
+        allocation_blocks: 4,
+        image_blocks: 4 + directory_length + 6,
+        next_number: 311 * 65_536,
+        ..geometry(random)
+    }
 }
 
 /// A home slot of the archive's table, at times one at an edge.
@@ -255,7 +274,7 @@ fn slot(random: &mut Random) -> u32 {
 fn crowding_files(random: &mut Random, count: usize) -> Vec<(usize, FileSpec)> {
     let (by_number, by_name) = (slot(random), slot(random));
     let numbers = [by_number, by_number + 1].map(|slot| images::numbers_at(slot % 4096));
-    let names = [by_name, by_name + 1].map(|slot| images::names_at(slot % 4096));
+    let names = [by_name, by_name + 1].map(|slot| images::names_at(slot % 4096, 5, count));
     let (number_style, name_style) = (random.below(4), random.below(4));
     let mut order: Vec<usize> = (0..count).collect();
     random.shuffle(&mut order);
@@ -265,11 +284,12 @@ fn crowding_files(random: &mut Random, count: usize) -> Vec<(usize, FileSpec)> {
             1 => numbers[i % 2](i),
             _ => numbers[0](i),
         };
-        let name = match name_style {
+        let mut name = match name_style {
             0 => format!("w{i:04}").into_bytes(),
-            1 => names[i % 2](i),
-            _ => names[0](i),
+            1 => names[i % 2][i].clone(),
+            _ => names[0][i].clone(),
         };
+        respell(random, &mut name);
         (at / 9, FileSpec::empty(number, &name))
     };
     order.into_iter().enumerate().map(file).collect()
@@ -297,13 +317,4 @@ pub fn entries(image: &[u8]) -> Vec<usize> {
 
 pub fn name_at(image: &[u8], at: usize) -> &[u8] {
     &image[at + 51..at + 51 + usize::from(image[at + 50])]
-}
-
-/// Letters in another case, half of them.
-pub fn other_case(random: &mut Random, name: &mut [u8]) {
-    for byte in name {
-        if byte.is_ascii_alphabetic() && random.once_in(2) {
-            *byte ^= 0x20;
-        }
-    }
 }

@@ -1,6 +1,7 @@
 //! Wrapped files from a seed, and damage to them.
 
-use super::{damage, volume};
+use super::damage::{damage, repeat_name};
+use super::{entries, volume};
 use crate::images::{get4, put2, put4, put_checksums, wrapped, DATA, HEADER, TAGS};
 use crate::random::Random;
 
@@ -82,7 +83,12 @@ fn damage_sum(random: &mut Random, file: &mut [u8], at: usize) {
 /// A fault of the volume, under checksums that are right.
 fn damage_inside(random: &mut Random, file: &mut [u8]) {
     let mut image = file[HEADER..HEADER + DATA].to_vec();
-    damage(random, &mut image);
+    let entries = entries(&image);
+    if entries.is_empty() || !random.once_in(4) {
+        damage(random, &mut image);
+    } else {
+        repeat_name(random, &mut image, &entries);
+    }
     image.resize(DATA, 0);
     file[HEADER..HEADER + DATA].copy_from_slice(&image);
     put_checksums(file);
