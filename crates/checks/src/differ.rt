@@ -9,6 +9,7 @@ use crate::pairs::pairs_differ;
 use crate::table::Compared;
 use crate::table::compare_by;
 use directory::Cursor;
+use directory::fold_table;
 
 // Fewer entries are compared pair by pair sooner than two tables are cleared.
 const FEW: usize = 6;
@@ -18,17 +19,18 @@ pub fn all_differ(image: &[u8], from: Cursor, count: usize) -> bool
     requires { ⌜ Passes (now image) from ⌝ }
     ensures { λ r. ⌜ r ≡ (distinct sameNumbers (restOf (now (image .entry)) from) && distinct sameNames (restOf (now (image .entry)) from)) ⌝ }
 {
+    let fold = fold_table();
     if count < FEW {
-        return pairs_differ(image, from);
+        return pairs_differ(image, from, &fold);
     }
-    match compare_by(image, from, Field::Number) {
-        Compared::Differ => match compare_by(image, from, Field::Name) {
+    match compare_by(image, from, Field::Number, &fold) {
+        Compared::Differ => match compare_by(image, from, Field::Name, &fold) {
             Compared::Differ => true,
             Compared::Repeated => false,
             // No volume has so many entries that the table has no slot for one.
-            Compared::Unknown => pairs_differ(image, from),
+            Compared::Unknown => pairs_differ(image, from, &fold),
         },
         Compared::Repeated => false,
-        Compared::Unknown => pairs_differ(image, from),
+        Compared::Unknown => pairs_differ(image, from, &fold),
     }
 }

@@ -10,7 +10,6 @@ use crate::Field;
 use directory::Advance;
 use directory::Cursor;
 use directory::EntryAt;
-use directory::fold_table;
 use directory::number_of;
 use directory::same_name;
 
@@ -70,16 +69,16 @@ fn clashes_behind(image: &[u8], from: Cursor, e: EntryAt, fold: &[u8; 256]) -> b
 }
 
 // Whether no file number is repeated and no two names are equal: each entry is compared with those behind it.
-pub fn pairs_differ(image: &[u8], from: Cursor) -> bool
+pub fn pairs_differ(image: &[u8], from: Cursor, fold: &[u8; 256]) -> bool
     requires { ⌜ Passes (now image) from ⌝ }
+    requires { ⌜ Folds (now fold) ⌝ }
     ensures { λ r. ⌜ r ≡ (distinct sameNumbers (restOf (now (image .entry)) from) && distinct sameNames (restOf (now (image .entry)) from)) ⌝ }
 {
-    let fold = fold_table();
     let mut c = from;
     loop {
         match c.advance(image) {
             Advance::Entry(e, behind) => {
-                if clashes_behind(image, behind, e, &fold) {
+                if clashes_behind(image, behind, e, fold) {
                     return false;
                 }
                 c = behind;

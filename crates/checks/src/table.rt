@@ -11,7 +11,6 @@ use crate::pairs::same;
 use directory::Advance;
 use directory::Cursor;
 use directory::EntryAt;
-use directory::fold_table;
 use directory::number_of;
 
 // Slots of the table. The first 4,096 are home slots. No directory has more than 2,304 entries, nine in each of 256 blocks, so that
@@ -116,16 +115,22 @@ fn probe(image: &[u8], table: &[u32; SLOTS], e: EntryAt, field: Field, fold: &[u
 }
 
 // Whether the entries differ. Each is put into the table as its start and 1, since 0 is a free slot.
-fn insert_all(image: &[u8], from: Cursor, field: Field, table: &mut [u32; SLOTS]) -> Compared
+fn insert_all(
+    image: &[u8],
+    from: Cursor,
+    field: Field,
+    fold: &[u8; 256],
+    table: &mut [u32; SLOTS],
+) -> Compared
     requires { ⌜ Passes (now image) from ⌝ }
+    requires { ⌜ Folds (now fold) ⌝ }
     requires { ⌜ AllFree (now table) ⌝ }
     ensures { λ r. ⌜ Compares field (restOf (now (image .entry)) from) r ⌝ }
 {
-    let fold = fold_table();
     let mut c = from;
     loop {
         match c.advance(image) {
-            Advance::Entry(e, behind) => match probe(image, table, e, field, &fold) {
+            Advance::Entry(e, behind) => match probe(image, table, e, field, fold) {
                 Slot::Free(i) => {
                     table[i] = (e.start + 1) as u32;
                     c = behind;
@@ -152,10 +157,11 @@ fn empty() -> [u32; SLOTS]
 }
 
 // Whether the entries differ in their file numbers, or in their names.
-pub fn compare_by(image: &[u8], from: Cursor, field: Field) -> Compared
+pub fn compare_by(image: &[u8], from: Cursor, field: Field, fold: &[u8; 256]) -> Compared
     requires { ⌜ Passes (now image) from ⌝ }
+    requires { ⌜ Folds (now fold) ⌝ }
     ensures { λ r. ⌜ Compares field (restOf (now (image .entry)) from) r ⌝ }
 {
     let mut table = empty();
-    insert_all(image, from, field, &mut table)
+    insert_all(image, from, field, fold, &mut table)
 }

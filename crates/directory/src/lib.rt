@@ -1,5 +1,6 @@
 // The directory: its entries in order, the fields of an entry, names compared without case, entries found by name and by place.
 mod fields;
+mod folds;
 mod names;
 mod places;
 mod reading;
@@ -9,7 +10,7 @@ pub use fields::fork_place;
 pub use fields::number_of;
 pub use fields::read_entry;
 pub use fields::read_fork;
-pub use names::fold_table;
+pub use folds::fold_table;
 pub use names::same_name;
 pub use places::entry_size;
 pub use search::entry_at;

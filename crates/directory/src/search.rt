@@ -8,7 +8,7 @@ use crate::Advance;
 use crate::Cursor;
 use crate::EntryAt;
 use crate::Found;
-use crate::names::fold_table;
+use crate::folds::fold_table;
 use crate::names::same_name;
 
 // Whether the entry has the name.

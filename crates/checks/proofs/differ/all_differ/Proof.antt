@@ -18,11 +18,14 @@ first-true : (a b r : Bool) → a ≡ true → b ≡ r → r ≡ (a && b)
 first-true a b r h g = rw (h, g)
 
 abbrev start : tie.After-enum-told → tie.Start
-start c = c .before .before .before .before .before
+start c = c .before .before .before .before .before .before .before
 
 -- the file numbers differ
 numbers : (c : tie.After-enum-told) → let s = start c in distinct sameNumbers (restOf (now (s .args .image)) (s .args .from)) ≡ true
 numbers c = let n = c .before .before in compared-differ Number _ _ (n .compare-by .ensures) (c .enum-told .given .1)
+
+fold-table-requires : tie.Need-fold-table-requires
+fold-table-requires c κs = search needs
 
 pairs-differ-requires : tie.Need-pairs-differ-requires
 pairs-differ-requires c κs = search needs
@@ -63,12 +66,12 @@ pairs-differ-requires-3 c κs = search needs
 returns-2 : tie.Need-returns-2
 returns-2 c =
     let n = c .before .before in
-    first-true _ _ _ (numbers (n .before)) (compared-differ Name _ _ (n .compare-by2 .ensures) (c .enum-told2 .given .1))
+    first-true _ _ _ (numbers (n .before .before)) (compared-differ Name _ _ (n .compare-by2 .ensures) (c .enum-told2 .given .1))
 
 returns-3 : tie.Need-returns-3
 returns-3 c =
     let n = c .before .before in
-    first-true _ _ _ (numbers (n .before)) (compared-repeated Name _ _ (n .compare-by2 .ensures) (c .enum-told3 .given .1))
+    first-true _ _ _ (numbers (n .before .before)) (compared-repeated Name _ _ (n .compare-by2 .ensures) (c .enum-told3 .given .1))
 
 returns-4 : tie.Need-returns-4
 returns-4 c = search needs
@@ -83,6 +86,7 @@ pub all-differ-spec : {M : Type 1} → statement M
 all-differ-spec =
     tie.close
     (tie.spec
+    fold-table-requires
     pairs-differ-requires
     returns
     compare-by-requires

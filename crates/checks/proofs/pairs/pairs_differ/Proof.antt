@@ -22,19 +22,16 @@ at-loop c = c .before .before .before
 
 -- the next entry, from where it is compared
 abbrev next : tie.After-clashes-behind Inv-loop μ-loop → tie.After-e Inv-loop μ-loop
-next c = c .before .before .before
+next c = c .before .before
 
 -- the step to the next entry
 step : (c : tie.After-e Inv-loop μ-loop) → let l = at-loop c in
-    Advances (now (l .before .before .before .args .image)) (l .loop .c) (c .e .given .0 .0) (c .e .given .0 .1 .0)
+    Advances (now (l .before .before .args .image)) (l .loop .c) (c .e .given .0 .0) (c .e .given .0 .1 .0)
 step c = advanced (c .before .before .advance .ensures) (c .e .given .1)
-
-fold-table-requires : tie.Need-fold-table-requires Inv-loop μ-loop
-fold-table-requires c κs = search needs
 
 loop-holds : tie.Need-loop-holds Inv-loop μ-loop
 unfolding allDiffer
-loop-holds c = (c .before .before .pre, refl)
+loop-holds c = (c .before .pre .0, refl)
 
 advance-requires : tie.Need-advance-requires Inv-loop μ-loop
 advance-requires c κs = search needs
@@ -44,9 +41,9 @@ enum-known-e c = search needs
 
 clashes-behind-requires : tie.Need-clashes-behind-requires Inv-loop μ-loop
 clashes-behind-requires c κs =
-    let k = c .before .before in
+    let k = c .before in
     let s = step k in
-    (s .passes, (s .moves .stands, at-loop k .before .fold-table .ensures .0))
+    (s .passes, (s .moves .stands, at-loop k .before .before .pre .1))
 
 returns : tie.Need-returns Inv-loop μ-loop
 unfolding allDiffer
@@ -78,7 +75,6 @@ pairs-differ-spec =
     (tie.spec
     Inv-loop
     μ-loop
-    fold-table-requires
     loop-holds
     advance-requires
     enum-known-e

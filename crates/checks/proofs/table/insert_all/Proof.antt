@@ -21,7 +21,7 @@ abbrev at-loop : tie.After-e Inv-loop μ-loop → tie.At-loop Inv-loop μ-loop
 at-loop c = c .before .before .before
 
 abbrev start : tie.At-loop Inv-loop μ-loop → tie.Start Inv-loop μ-loop
-start l = l .before .before .before
+start l = l .before .before
 
 -- the step to the next entry
 step : (c : tie.After-e Inv-loop μ-loop) → let l = at-loop c in
@@ -30,7 +30,7 @@ step c = advanced (c .before .before .advance .ensures) (c .e .given .1)
 
 -- the entry, from its probe on and from its free slot on
 abbrev probed : tie.After-probe Inv-loop μ-loop → tie.After-e Inv-loop μ-loop
-probed c = c .before .before .before .before
+probed c = c .before .before .before
 
 abbrev entry : tie.After-i Inv-loop μ-loop → tie.After-e Inv-loop μ-loop
 entry c = probed (c .before .before)
@@ -40,11 +40,8 @@ free : (c : tie.After-i Inv-loop μ-loop) → let k = entry c in let l = at-loop
     FreeAt (a .field) (now (a .image)) (l .loop .table) (k .e .given .0 .0) (c .i .given .0 .0)
 free c = found-free _ _ _ _ _ (c .before .before .probe .ensures) _ (c .i .given .1)
 
-fold-table-requires : tie.Need-fold-table-requires Inv-loop μ-loop
-fold-table-requires c κs = search needs
-
 loop-holds : tie.Need-loop-holds Inv-loop μ-loop
-loop-holds c = let p = c .before .before .pre in (p .0, kept-none (p .1))
+loop-holds c = let p = c .before .pre in (p .0, kept-none (p .1 .1))
 
 advance-requires : tie.Need-advance-requires Inv-loop μ-loop
 advance-requires c κs = search needs
@@ -54,9 +51,9 @@ enum-known-e c = search needs
 
 probe-requires : tie.Need-probe-requires Inv-loop μ-loop
 probe-requires c κs =
-    let k = c .before .before .before in
+    let k = c .before .before in
     let l = at-loop k in
-    (step k .moves .stands, (l .loop .inv .1 .filled, l .before .fold-table .ensures .0))
+    (step k .moves .stands, (l .loop .inv .1 .filled, start l .pre .1 .0))
 
 enum-known-i : tie.Need-enum-known-i Inv-loop μ-loop
 enum-known-i c = search needs
@@ -113,7 +110,6 @@ insert-all-spec =
     (tie.spec
     Inv-loop
     μ-loop
-    fold-table-requires
     loop-holds
     advance-requires
     enum-known-e

@@ -7,10 +7,10 @@ use Rattle.model.specs.Lists.{every, first, from}
 use Rattle.model.specs.Directory.{letters, accents, pairs}
 use Rattle.directory.specs.Folding.{fold}
 use Rattle.directory.proofs.Folding.{folds-all}
-use Rattle.directory.proofs.names.fold_table.Statement.{statement}
-use Rattle.directory.proofs.names.fold_table.Tie as tie
-use Rattle.directory.proofs.names.fold_table.Reads as reads
-use Rattle.directory.proofs.names.fold_table.Lts as lts
+use Rattle.directory.proofs.folds.fold_table.Statement.{statement}
+use Rattle.directory.proofs.folds.fold_table.Tie as tie
+use Rattle.directory.proofs.folds.fold_table.Reads as reads
+use Rattle.directory.proofs.folds.fold_table.Lts as lts
 
 -- the table that is returned
 abbrev table : tie.Start → List ℕ
