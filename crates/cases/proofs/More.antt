@@ -2,8 +2,8 @@
 use mathlib.Core.Path.{refl}
 use Rattle.model.specs.Cases.{AllRight, end, _&_}
 use Rattle.model.proofs.Cases.{everything, row}
-use Rattle.cases.specs.More.{badVolumes, readings, creations, changings, orders, borderDisk, foldings, sampled, contents, wideDisk, wideGrown, wideForks}
-use Rattle.cases.specs.More.{oldDisk, oldFacts, oldNames}
+use Rattle.cases.specs.More.{badVolumes, readings, creations, changings, orders, oldDisk, borderDisk, foldings, sampled, speltDisk, lockedDisk, spellings}
+use Rattle.cases.specs.More.{contents, wideDisk, wideGrown, wideForks, oldFacts, oldNames}
 use Rattle.cases.specs.More.{limited, Limits, MoreCases}
 
 bad-volumes : AllRight badVolumes
@@ -29,7 +29,11 @@ all-orders = row & row & row & row & row & row & row & row & row & row & end
 
 all-foldings : AllRight foldings
 unfolding everything borderDisk oldDisk foldings
-all-foldings = row & row & row & row & row & row & row & row & end
+all-foldings = row & row & row & row & row & row & row & row & row & end
+
+all-spellings : AllRight spellings
+unfolding everything borderDisk sampled speltDisk lockedDisk spellings
+all-spellings = row & row & row & row & row & row & row & row & row & row & row & row & end
 
 all-contents : AllRight contents
 unfolding everything sampled contents
@@ -49,4 +53,4 @@ limits = (refl, refl, refl, refl, refl, refl, refl, refl)
 
 pub more : MoreCases
 unfolding MoreCases
-more = (bad-volumes, all-readings, all-creations, all-changings, all-orders, all-foldings, all-contents, all-wide-forks, all-old-names, limits)
+more = (bad-volumes, all-readings, all-creations, all-changings, all-orders, all-foldings, all-spellings, all-contents, all-wide-forks, all-old-names, limits)

@@ -179,14 +179,48 @@ foldings =
     ∷ refused 13 (find (65 ∷ 90 ∷ 64 ∷ 91 ∷ 0x81 ∷ [])) borderDisk
     -- 11 hex for the 1 of WEEK1
     ∷ refused 13 (find (87 ∷ 69 ∷ 69 ∷ 75 ∷ 0x11 ∷ [])) hall
-    -- a name of 32 that differs in its last byte
+    -- names of 32 and 255 that differ in their last byte
     ∷ refused 13 (find (longName 65 31 ++ (66 ∷ []))) oldDisk
+    ∷ refused 13 (find (longName 66 254 ++ (65 ∷ []))) oldDisk
     ∷ []
 
 -- a disk of one directory block with bytes in its boot blocks, the first file's Finder information, the allocation blocks and
 -- the last two blocks
 unfoldable pub sampled : List ℕ → List ℕ
 sampled image = withBytes 0 (sample 0 1024) (withBytes 2050 (sample 0 16) (withBytes 2560 (sample 0 3584) image))
+
+-- the file of borderDisk by its other spelling, with bytes in its blocks, and locked
+abbrev pub spelt : List ℕ
+spelt = 97 ∷ 122 ∷ 64 ∷ 91 ∷ 0x8a ∷ []
+
+unfoldable pub speltDisk : List ℕ
+speltDisk = sampled borderDisk
+
+unfoldable pub lockedDisk : List ℕ
+lockedDisk = withBytes 2048 (0x81 ∷ []) speltDisk
+
+-- read, written, cut, deleted and refused by the other spelling as by its own
+unfoldable pub spellings : List Row
+spellings =
+    does speltDisk (read spelt Data 500 (replicate 100 0xee)) (tellsRead 100 (sample 500 12 ++ sample 1024 88)) speltDisk
+    ∷ does speltDisk (write spelt Data 700 (zeros 400) 9) (only 0 [])
+    (withBytes 1058 (bytes16 1) (withBytes 1088 (0x00 ∷ 0x40 ∷ 0x01 ∷ 0x00 ∷ 0x50 ∷ 0x01 ∷ [])
+    (withWeek1 2 1100 1536 9 (withBytes 3772 (zeros 324) (withBytes 4096 (zeros 76) speltDisk)))))
+    ∷ does speltDisk (cut spelt Data 100 9) (only 0 [])
+    (withBytes 1058 (bytes16 3) (withBytes 1088 (0x00 ∷ 0x10 ∷ 0x01 ∷ 0x00 ∷ 0x00 ∷ []) (withWeek1 2 100 512 9 speltDisk)))
+    ∷ does speltDisk (delete spelt) (only 0 [])
+    (withBytes 1036 (bytes16 1) (withBytes 1058 (bytes16 4) (withBytes 1088 (0x00 ∷ 0x00 ∷ 0x01 ∷ 0x00 ∷ 0x00 ∷ [])
+    (withBytes 2048 (ratesEntry ++ zeros 456) speltDisk))))
+    -- 15, 16 and 17
+    ∷ refused 15 (write spelt Data 0 [] 9) lockedDisk
+    ∷ refused 15 (cut spelt Data 0 9) lockedDisk
+    ∷ refused 15 (delete spelt) lockedDisk
+    ∷ refused 16 (block spelt Data 2) speltDisk
+    ∷ does speltDisk (read spelt Data 701 (replicate 3 0xee)) (only 16 (replicate 3 0xee)) speltDisk
+    ∷ refused 16 (write spelt Data 701 [] 9) speltDisk
+    ∷ refused 16 (cut spelt Data 701 9) speltDisk
+    ∷ refused 17 (write spelt Data 700 (zeros 1349) 9) speltDisk
+    ∷ []
 
 -- what stays where the blocks hold bytes
 unfoldable pub contents : List Row
@@ -307,6 +341,7 @@ MoreCases =
     × AllRight changings
     × AllRight orders
     × AllRight foldings
+    × AllRight spellings
     × AllRight contents
     × AllRight wideForks
     × AllRight oldNames
