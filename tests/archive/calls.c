@@ -285,7 +285,7 @@ static void old_names(void)
     }
 }
 
-/* "Ete" with both its accents, in two spellings, and names that only look like it. */
+/* "Ete" with both its accents, in two spellings, and a name that only looks like it. */
 static void accents(void)
 {
     static const uint8_t name[3] = {0x83, 't', 0x8e}, other[3] = {0x8e, 'T', 0x83}, near[3] = {0x83, 't', 0x8f};

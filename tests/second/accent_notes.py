@@ -8,7 +8,7 @@ import spelling
 import volume
 
 BY_NAME = 'FBRWUD'              # the calls on a file that is there
-FEW = 5                         # most files of a small directory
+FEW = 5                         # small and large directories are both met
 
 CALLS = ['%s 7, both spellings' % tag
          for tag in replay.READING + replay.CHANGING]

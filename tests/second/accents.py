@@ -21,6 +21,7 @@ WORDS = [tuple(word.encode('mac_roman') for word in words.split('/'))
              'Ça va/ça va', 'Œuvres/œuvres', 'Mañana/MAÑANA', 'Øre/øre',
              'Lektüre/LEKTÜRE', 'São João/SÃO JOÃO', 'Kärnten/KÄRNTEN',
              'Åre/åre', 'Lições/LIÇÕES', 'Ærø/æRØ', 'Schön/SCHÖN')]
+# two accents, and no other letter in another case
 WORDS.append((b'\x8et\x8e', b'\x83t\x83'))
 
 
@@ -107,11 +108,12 @@ def near_misses(tape):
     """Beside each half of each pair, names with a near byte in its place, and
     shorter and longer ones."""
     rng = random.Random(53)
-    for turn, place in enumerate(maker.PLACES):
-        names = {maker.put(place, b, b'%d%d' % (half, turn)): b
+    for number, place in enumerate(maker.PLACES):
+        names = {maker.put(place, b, b'%d%d' % (half, number)): b
                  for pair in spelling.ACCENTS for half, b in enumerate(pair)}
         tape.add('I', roomy(rng, list(names)).image())
         taken = {spelling.fold(name) for name in names}
+        turn = number
         for own, b in names.items():
             missing = [maker.put(place, near, own.replace(bytes([b]), b''))
                        for near in spelling.NEAR[b]]

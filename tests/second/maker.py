@@ -199,8 +199,8 @@ def other_case(rng, name):
 PLACES = ('first', 'middle', 'last')
 
 
-def put(place, byte, text=b'12'):
-    """A name that has this byte at one of the PLACES."""
+def put(place, byte, text):
+    """The text with this byte put in at one of the PLACES."""
     at = {'first': 0, 'middle': len(text) // 2, 'last': len(text)}[place]
     return text[:at] + bytes([byte]) + text[at:]
 
@@ -544,7 +544,7 @@ def every_byte(rng, left_out=spelling.LOWER, place='first', text=b''):
                 locked=False, file_locks=0, next_kind='small', names=names)
 
 
-def accented_names(rng, count, **want):
+def accented_names(rng, count):
     """This many files with short accented names, and some blocks."""
     names = []
     while len(names) < count:
@@ -552,9 +552,8 @@ def accented_names(rng, count, **want):
                         accented_name)
         if name is not None:
             names.append(name)
-    return make(rng, names=names, **{
-        'limit': 9, 'per': 1, 'n': 4, 'dir_length': directory_for(names) + 1,
-        'locked': False, 'next_kind': 'small', **want})
+    return make(rng, limit=9, per=1, n=4, dir_length=directory_for(names) + 1,
+                locked=False, next_kind='small', names=names)
 
 
 def with_names(rng, names, **want):

@@ -4,7 +4,8 @@ import datetime
 import random
 import time
 
-from support import Case, as_text, hall, maker, volume, water, with_names
+from support import (Case, as_text, hall, maker, volume, water, with_names,
+                     wrapped)
 
 EPOCH = datetime.datetime(1904, 1, 1)
 LAST = 4294967295
@@ -67,23 +68,30 @@ class Names(Case):
 
     def test_both_spellings(self):
         """One file under both, which keeps the name that it was made with."""
-        self.write(water())
-        for name, other in (('Été', 'été'), ('été', 'ÉTÉ')):
-            self.put(name, b'litres')
-            self.assertEqual(self.done('get', self.image, other), b'litres')
-            self.done('append', '--date=@1', self.image, other, '-',
-                      stdin=b' more')
-            self.assertEqual(self.done('get', self.image, name),
-                             b'litres more')
-            self.put(other, b'new')
-            table = self.done('list', '-l', self.image).decode('utf-8')
-            self.assertIn('  %s\n' % name, table)
-            self.assertNotIn('  %s\n' % other, table)
-            self.done('cut', '--date=@1', self.image, other, '2')
-            self.assertEqual(self.done('get', self.image, name), b'ne')
-            self.done('delete', self.image, other)
-            self.refused(13, 'get', self.image, name)
-            self.refused(13, 'get', self.image, other)
+        for disk in water(), wrapped(water()):
+            self.write(disk)
+            for name, other in (('Été', 'été'), ('été', 'ÉTÉ')):
+                self.one_file(name, other)
+            self.done('check', self.image)
+
+    def one_file(self, name, other):
+        self.put(name, b'litres')
+        self.assertEqual(self.done('get', self.image, other), b'litres')
+        self.done('append', '--date=@1', self.image, other, '-',
+                  stdin=b' more')
+        self.assertEqual(self.done('get', self.image, name),
+                         b'litres more')
+        self.put(other, b'new')
+        table = self.done('list', '-l', self.image).decode('utf-8')
+        self.assertIn('  %s\n' % name, table)
+        self.assertNotIn('  %s\n' % other, table)
+        self.done('cut', '--date=@1', self.image, other, '2')
+        self.assertEqual(self.done('get', self.image, name), b'ne')
+        # all of them or none: the second is not there once the first is out
+        self.refused(13, 'delete', self.image, name, other)
+        self.done('delete', self.image, other)
+        self.refused(13, 'get', self.image, name)
+        self.refused(13, 'get', self.image, other)
 
     def test_near_misses(self):
         """Letters of no pair that is listed are two names."""
