@@ -8,7 +8,7 @@ import spelling
 import volume
 
 BY_NAME = 'FBRWUD'              # the calls on a file that is there
-FEW = 5                         # small and large directories are both met
+FEW = 5                         # files that count as few, in these notes
 
 CALLS = ['%s 7, both spellings' % tag
          for tag in replay.READING + replay.CHANGING]
