@@ -9,6 +9,7 @@ use lib.ListN.{length, getD, set, take, drop, length-set}
 use lib.Seq.{getD-set-same, getD-set-other, set-out, take-set-le, drop-set-lt}
 use Rattle.model.specs.Bytes.{byte, half, Bytes}
 use Rattle.model.specs.Map.{entryByte, joined, firstByte, secondByte, mapEntry, setEntry}
+use Rattle.model.proofs.Threes.{place}
 use Rattle.laws.proofs.Stores.{half-same}
 
 -- ---- two bytes
@@ -112,10 +113,6 @@ earlier l b v o h hv odd even e =
     let x : getD (setEntry l b v) (entryByte o) 0 ≡ getD l (entryByte o) 0 = getD-setEntry-other l b v (entryByte o) (omega arith) (omega arith) in
     let y : getD (setEntry l b v) (entryByte o + 1) 0 / 16 ≡ getD l (entryByte o + 1) 0 / 16 = rw (e, getD-first l b v h, odd) (omega arith) in
     rw even (omega arith)
-
--- the byte of the k-th entry, counted from 0
-place : (k : ℕ) → k * 3 / 2 ≡ k / 2 * 3 + k % 2
-place k = omega arith
 
 -- only an odd entry starts in the second byte of another, an even one
 shared : (m p q r : ℕ) → p < 2 → r < 2 → q * 3 + r ≡ m * 3 + p + 1 → (p ≡ 0) × (r ≡ 1)

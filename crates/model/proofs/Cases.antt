@@ -11,7 +11,7 @@ use Rattle.model.specs.Lists.{every, any, distinct, keep, first, placeOf
 use Rattle.model.specs.Bytes.{part, be16, be32, bytes32, zeros}
 use Rattle.model.specs.Facts.{factsIn, factsOf, isLocked, noFacts}
 use Rattle.model.specs.Map.{joined, firstByte, secondByte, mapEntry, setEntry, isBlock, sortOf, isBad, runs, chainBlocks, freeBlocks, behind, putChain}
-use Rattle.model.specs.Map.{putFree}
+use Rattle.model.specs.Map.{putFree, threeBytes, entriesIn, bytesFor}
 use Rattle.model.specs.Directory.{padded, entrySize, inUse, endsAt, nextPlace, readAt, entries, readEnd, cutBlocks, directoryBlocks, listing, directory}
 use Rattle.model.specs.Directory.{numberIn, nameIn, finderIn, forkIn, forkOf, wide, entryIn, noEntry, flagsLock, forksIn, blockCount, forkBlocks}
 use Rattle.model.specs.Directory.{ownedBlocks, letters, accents, pairs, isPair, paired, sameByte, sameName, named}
@@ -27,7 +27,7 @@ use Rattle.model.specs.Cases.{Plan, info, disk, entryBytes, weekEntry, r
 use Rattle.model.specs.Cases.{freeCount3, ring, info800, Row, Right, AllRight, end, _&_, weekFacts, pCases, PCases, hallFacts, ratesFacts, newsEntry}
 use Rattle.model.specs.Cases.{paddedDisk, staleDisk, deadDisk, fullWeek, resourceDisk, roomyDisk, longName, longDisk, twoBlocks, tellsRead, longFacts}
 use Rattle.model.specs.Cases.{telling, longNames, WEEK1, headOf, headWith, containers, accentDisk, accentFacts, lettersListed, pairsListed, othersLow}
-use Rattle.model.specs.Cases.{othersHigh, accented, FurtherCases}
+use Rattle.model.specs.Cases.{othersHigh, accented, lastPair, threes, FurtherCases}
 use Rattle.model.specs.Cases.Row.{does, passes3, gives3, wraps, stops, declines, serves, renews, twins, alone}
 use Rattle.model.specs.Calls.{Call, Answer}
 use Rattle.model.specs.declared.Fork.the-variants.{Data}
@@ -42,6 +42,7 @@ unfolding every any distinct keep first placeOf flat from times firstOr0
     be16 be32 firstOf
     factsIn factsOf isLocked noFacts
     joined firstByte secondByte mapEntry setEntry isBlock sortOf isBad runs chainBlocks freeBlocks behind putChain putFree
+    threeBytes entriesIn bytesFor
     padded entrySize inUse endsAt nextPlace readAt entries readEnd cutBlocks directoryBlocks listing directory numberIn nameIn finderIn forkIn forkOf wide
     entryIn noEntry flagsLock forksIn blockCount forkBlocks ownedBlocks letters accents pairs isPair paired sameByte sameName named
     fires1 fires2 fires3 fires4 fires5 goodEntry fires6 goodNumber fires7 emptyFork fullFork goodFork sharesNone fires8 fires9 fires10 from9 from8 from7 from6
@@ -221,10 +222,11 @@ accented-right =
     & row & row & row & row & row & row & row & row & row & row & row & row & end
 
 pub further : FurtherCases
-unfolding everything telling longNames FurtherCases
+unfolding everything telling longNames threes lastPair FurtherCases
 further = (
   row & row & row & row & row & row & row & row & row & end,
   row & row & row & row & row & row & row & row & row & row & row & end,
   containers-right,
   accented-right,
+  row & row & row & row & row & row & row & row & row & row & row & row & refl & refl & refl & refl & end,
 )

@@ -5,6 +5,7 @@ pub mod Lists
 pub mod Times
 pub mod Names
 pub mod Map
+pub mod Threes
 pub mod Check
 pub mod Container
 pub mod Cases

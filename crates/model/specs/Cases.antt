@@ -1,5 +1,5 @@
--- The disk HALL, the P cases as one table under one statement, and four tables of further cases, the second on long names, the
--- third on wrapped files, the fourth on accents.
+-- The disk HALL, the P cases as one table under one statement, and five tables of further cases, the second on long names, the
+-- third on wrapped files, the fourth on accents, the fifth on three bytes and two entries.
 use Prim.Native.Nat.{ℕ, zero, suc, _+_, _-_, _*_, _/_, _%_, _<_}
 use mathlib.Core.Path.{_≡_}
 use mathlib.Core.Bool.{Bool, true, false, _||_}
@@ -10,7 +10,7 @@ use lib.Seq.{paste}
 use Rattle.model.specs.Lists.{flat, from}
 use Rattle.model.specs.Bytes.{byte, bytes16, bytes32, zeros, part}
 use Rattle.model.specs.Facts.{factsOf, blocksIn, noFacts}
-use Rattle.model.specs.Map.{mapEntry, putChain}
+use Rattle.model.specs.Map.{mapEntry, setEntry, putChain, pairByte, threeBytes, entriesIn, bytesFor}
 use Rattle.model.specs.Directory.{noEntry, sameByte}
 use Rattle.model.specs.Check.{fires3, verdict}
 use Rattle.model.specs.Calls.{Call, Answer, lent, refusal, reply, change, only, tellsFacts, tellsEntry, tellsBlock, answer, after}
@@ -151,6 +151,12 @@ pub data Row : Type 0 where
   -- in names either byte of each pair equals itself and the other, and no other number; each of these bytes equals only itself
   twins : (pairs : List (ℕ × ℕ)) → Row
   alone : (bytes : List ℕ) → Row
+  -- three bytes and two entries each give the other
+  splits : (ab cd ef first second : ℕ) → Row
+  -- in an image whose bytes from 1088 on are these, a block's three bytes and its entry
+  looks : (bytes : List ℕ) (b ab cd ef value : ℕ) → Row
+  -- the same image with that entry for a block: its bytes from 1088 on
+  puts : (bytes : List ℕ) (b value : ℕ) (left : List ℕ) → Row
 
 unfoldable pub Right : Row → Type 0
 Right (pair ab cd ef x y) =
@@ -190,6 +196,12 @@ Right (twins pairs) =
     → (sameByte (getD pairs i (0, 0) .0) c ≡ (eqb (getD pairs i (0, 0) .0) c || eqb (getD pairs i (0, 0) .1) c))
     × (sameByte (getD pairs i (0, 0) .1) c ≡ (eqb (getD pairs i (0, 0) .0) c || eqb (getD pairs i (0, 0) .1) c))
 Right (alone bytes) = (i : ℕ) → i < length bytes → (c : ℕ) → sameByte (getD bytes i 0) c ≡ eqb (getD bytes i 0) c
+Right (splits ab cd ef first second) =
+    (entriesIn (record { ab = ab; cd = cd; ef = ef }) ≡ record { first = first; second = second })
+    × (bytesFor (record { first = first; second = second }) ≡ record { ab = ab; cd = cd; ef = ef })
+Right (looks bytes b ab cd ef value) =
+    (threeBytes (zeros 1088 ++ bytes) (pairByte b) ≡ record { ab = ab; cd = cd; ef = ef }) × (mapEntry (zeros 1088 ++ bytes) b ≡ value)
+Right (puts bytes b value left) = setEntry (zeros 1088 ++ bytes) b value ≡ zeros 1088 ++ left
 
 -- every row of the list
 infixr 5 _&_
@@ -580,5 +592,41 @@ accented =
     ∷ refused 13 (find (three 0x83 0x75 0x83)) (accentDisk NEW (three 0x8e 0x74 0x8e))
     ∷ []
 
+-- two pairs of entries: those of blocks 2 and 3, and of 4 and 5
+abbrev pub twoPairs : List ℕ
+twoPairs = 0xab ∷ 0xcd ∷ 0xef ∷ 0x12 ∷ 0x34 ∷ 0x56 ∷ []
+
+-- the map of N = 3, the low half-byte of its last byte being dead space
+abbrev pub oddMap : List ℕ
+oddMap = 0xab ∷ 0xcd ∷ 0xef ∷ 0x12 ∷ 0x3f ∷ []
+
+-- the map of N = 640, zero but for its last pair
+unfoldable pub lastPair : List ℕ → List ℕ
+lastPair three = zeros 957 ++ three
+
+-- Prove that the entry is the first of its three bytes where the block number is even and the second where it is odd, and that two
+-- entries and their three bytes each give back the other.
+unfoldable pub threes : List Row
+threes =
+    splits 0xab 0xcd 0xef 0xabc 0xdef
+    ∷ splits 0x12 0x34 0x56 0x123 0x456
+    ∷ splits 0x00 0x00 0x00 0 0
+    ∷ splits 0xff 0xff 0xff 4095 4095
+    ∷ splits 0xff 0xf0 0x00 4095 0
+    ∷ splits 0x00 0x0f 0xff 0 4095
+    -- both blocks of a pair have the same three bytes; N odd; the last block that there can be
+    ∷ looks twoPairs 2 0xab 0xcd 0xef 0xabc
+    ∷ looks twoPairs 3 0xab 0xcd 0xef 0xdef
+    ∷ looks twoPairs 4 0x12 0x34 0x56 0x123
+    ∷ looks twoPairs 5 0x12 0x34 0x56 0x456
+    ∷ looks (oddMap ++ (0x99 ∷ [])) 4 0x12 0x3f 0x99 0x123
+    ∷ looks (lastPair (0xab ∷ 0xcd ∷ 0xef ∷ [])) 641 0xab 0xcd 0xef 0xdef
+    -- a store keeps the pair's other entry, and dead space
+    ∷ puts twoPairs 2 0x789 (0x78 ∷ 0x9d ∷ 0xef ∷ 0x12 ∷ 0x34 ∷ 0x56 ∷ [])
+    ∷ puts twoPairs 3 0x789 (0xab ∷ 0xc7 ∷ 0x89 ∷ 0x12 ∷ 0x34 ∷ 0x56 ∷ [])
+    ∷ puts (oddMap ++ (0x99 ∷ [])) 4 0x001 (0xab ∷ 0xcd ∷ 0xef ∷ 0x00 ∷ 0x1f ∷ 0x99 ∷ [])
+    ∷ puts (lastPair (0xab ∷ 0xcd ∷ 0xef ∷ [])) 641 0x789 (lastPair (0xab ∷ 0xc7 ∷ 0x89 ∷ []))
+    ∷ []
+
 unfoldable pub FurtherCases : Type 0
-FurtherCases = AllRight telling × AllRight longNames × AllRight containers × AllRight accented
+FurtherCases = AllRight telling × AllRight longNames × AllRight containers × AllRight accented × AllRight threes

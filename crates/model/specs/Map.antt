@@ -1,13 +1,15 @@
 -- The map: 12-bit entries, their sort, chains, free blocks.
-use Prim.Native.Nat.{ℕ, zero, suc, _+_, _-_, _*_, _/_, _%_, _≤_}
+use Prim.Native.Nat.{ℕ, zero, suc, _+_, _-_, _*_, _/_, _%_, _≤_, _<_}
 use mathlib.Core.Path.{_≡_}
 use mathlib.Core.Bool.{Bool, true, false, _&&_, cond}
 use mathlib.Core.List.{List, [], _∷_}
 use lib.ListN.{getD, set}
 use lib.Dec.{eqb, leb}
 use Rattle.model.specs.Lists.{keep, from}
-use Rattle.model.specs.Bytes.{byte}
+use Rattle.model.specs.Bytes.{byte, Bytes}
 use Rattle.model.specs.declared.MapValue.{MapValue}
+use Rattle.model.specs.declared.ThreeBytes.{ThreeBytes}
+use Rattle.model.specs.declared.TwoEntries.{TwoEntries}
 use Rattle.model.specs.declared.MapValue.the-variants.{Free, Last, Next, Bad}
 
 -- It starts at byte 1088. Each pair of entries fills three bytes, high bits first. The first entry is for block 2:
@@ -42,6 +44,45 @@ setEntry image b v =
     (set image (entryByte b) (firstByte ((b - 2) % 2) (byte image (entryByte b)) v))
     (entryByte b + 1)
     (secondByte ((b - 2) % 2) (byte image (entryByte b + 1)) v)
+
+-- ---- Three bytes and two entries, as the book has it (T-04)
+
+-- the first of the three bytes of block b's pair: 1088 for blocks 2 and 3, 1091 for 4 and 5. It is `entryByte b` where b is even,
+-- and the byte before that where b is odd.
+abbrev pub pairByte : ℕ → ℕ
+pairByte b = 1088 + (b - 2) / 2 * 3
+
+-- the three bytes of the image from byte `at` on
+unfoldable pub threeBytes : List ℕ → ℕ → ThreeBytes
+threeBytes image at = record { ab = byte image at; cd = byte image (at + 1); ef = byte image (at + 2) }
+
+-- AB CD EF holds ABC and DEF. Where N is odd, the second entry in the last three bytes is no block's.
+unfoldable pub entriesIn : ThreeBytes → TwoEntries
+entriesIn t = record { first = t .ab * 16 + t .cd / 16; second = t .cd % 16 * 256 + t .ef }
+
+-- ABC and DEF are held by AB CD EF
+unfoldable pub bytesFor : TwoEntries → ThreeBytes
+bytesFor e = record { ab = e .first / 16; cd = e .first % 16 * 16 + e .second / 256; ef = e .second % 256 }
+
+-- a byte has 8 bits and an entry 12
+abbrev pub AreBytes : ThreeBytes → Type 0
+AreBytes t = (t .ab < 256) × (t .cd < 256) × (t .ef < 256)
+
+abbrev pub AreEntries : TwoEntries → Type 0
+AreEntries e = (e .first < 4096) × (e .second < 4096)
+
+-- What T-04 wants proved:
+pub record TwoInThree : Type 0 where
+  -- The entry is the first of its three bytes where the block number is even
+  pub even : (image : List ℕ) (b : ℕ) → 2 ≤ b → b % 2 ≡ 0 → mapEntry image b ≡ entriesIn (threeBytes image (pairByte b)) .first
+  -- and the second where it is odd,
+  pub odd : (image : List ℕ) (b : ℕ) → 2 ≤ b → b % 2 ≡ 1 → mapEntry image b ≡ entriesIn (threeBytes image (pairByte b)) .second
+  -- and two entries and their three bytes each give back the other: every three bytes, every two entries,
+  pub bytesBack : (t : ThreeBytes) → AreBytes t → AreEntries (entriesIn t) × (bytesFor (entriesIn t) ≡ t)
+  pub entriesBack : (e : TwoEntries) → AreEntries e → AreBytes (bytesFor e) × (entriesIn (bytesFor e) ≡ e)
+  -- and those of the map.
+  pub mapBack : (image : List ℕ) (b : ℕ) → Bytes image → 2 ≤ b → b % 2 ≡ 0
+      → bytesFor (record { first = mapEntry image b; second = mapEntry image (b + 1) }) ≡ threeBytes image (pairByte b)
 
 -- In what follows e b is the entry of block b, n is N and a is A.
 

@@ -3,6 +3,7 @@
 ghost use Rattle.model.specs.Cases.{FurtherCases, PCases};
 ghost use Rattle.model.specs.Check.{VerdictIsAccepted};
 ghost use Rattle.model.specs.Container.{ContainerIsSound};
+ghost use Rattle.model.specs.Map.{TwoInThree};
 
 mod block_numbers;
 mod copying;
@@ -49,6 +50,19 @@ pub enum MapValue {
     Last,
     Next(AllocationBlock),
     Bad,
+}
+
+// Three bytes of the map, AB CD EF ..
+pub struct ThreeBytes {
+    pub ab: u8,
+    pub cd: u8,
+    pub ef: u8,
+}
+
+// .. and the two entries that they hold: the first is ABC, the second DEF.
+pub struct TwoEntries {
+    pub first: u16,
+    pub second: u16,
 }
 
 // A call's choice of fork.
@@ -98,4 +112,10 @@ pub fn verdict_is_accepted()
 // None of 22 to 24 fires exactly where the container is sound.
 pub fn container_is_sound()
     ensures { λ _. ⌜ ContainerIsSound ⌝ }
+{}
+
+// A block's map entry is the first of the two in its three bytes where its number is even and the second where it is odd, and
+// two entries and their three bytes each give back the other.
+pub fn two_in_three()
+    ensures { λ _. ⌜ TwoInThree ⌝ }
 {}
