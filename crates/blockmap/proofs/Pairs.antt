@@ -1,30 +1,61 @@
--- Laws of the decoding: what two entries' three bytes hold, and the list with both stored.
+-- Laws of a pair: the image with one of its entries stored, and the decoded list with both.
 use Prim.Native.Nat.{ℕ, _+_, _*_, _/_, _%_, _≤_, _<_}
-use mathlib.Core.Path.{_≡_, sym, _∙_}
+use mathlib.Core.Path.{_≡_, sym, _∙_, ap}
 use mathlib.Core.List.{List}
 use native.Mathlib.Omega.{arith}
 use native.Mathlib.Decide.{ℕ-discrete}
 use lib.ListN.{length, getD, set, length-set}
-use lib.Seq.{getD-set-same, getD-set-other}
-use Rattle.model.specs.Map.{mapEntry, joined, entryByte}
+use lib.Seq.{getD-set-same, getD-set-other, set-getD}
+use Rattle.model.specs.Map.{mapEntry, setEntry, firstByte, secondByte, pairByte, threeBytes, entriesIn, bytesFor}
+use Rattle.model.specs.Bytes.{Bytes}
+use Rattle.model.specs.declared.TwoEntries.{TwoEntries}
+use Rattle.model.proofs.Threes.{parity-even, parity-odd, even-byte, odd-byte, are-bytes, ab-of, c-of, d-of, ef-of}
+use Rattle.blockmap.specs.Stored.{putPair}
 use Rattle.blockmap.specs.Decoded.{decodedEntry, Decoded}
-use Rattle.blockmap.proofs.Bits.{even-place, odd-place}
 
--- b is even and at is the first of its pair's three bytes
-module _ (image : List ℕ) (b at : ℕ) (low : 2 ≤ b) (even : b % 2 ≡ 0) (here : at ≡ entryByte b) where
-  -- the entry of b
-  pub first-entry : getD image at 0 * 16 + getD image (at + 1) 0 / 16 ≡ mapEntry image b
-  unfolding mapEntry joined
-  first-entry = rw (even-place b low even, here)
+-- ---- one entry stored
 
-  -- the entry of the block behind it
-  pub second-entry : getD image (at + 1) 0 % 16 * 256 + getD image (at + 2) 0 ≡ mapEntry image (b + 1)
-  unfolding mapEntry joined
-  second-entry =
-      let p = odd-place (b + 1) (omega arith) (λ q. omega arith) in
-      let x : at + 1 ≡ entryByte (b + 1) = omega arith in
-      let y : at + 2 ≡ entryByte (b + 1) + 1 = omega arith in
-      rw (p, x, y)
+-- a byte that is put back where it stood, behind two others, and by itself
+third-stays : (l : List ℕ) (at x y z : ℕ) → z ≡ getD l (at + 2) 0 → set (set (set l at x) (at + 1) y) (at + 2) z ≡ set (set l at x) (at + 1) y
+third-stays l at x y z e =
+    let m = set (set l at x) (at + 1) y in
+    let far : at + 2 ≡ at + 1 → ⊥ = λ q. omega arith in
+    let near : at + 2 ≡ at → ⊥ = λ q. omega arith in
+    let same : z ≡ getD m (at + 2) 0 = e ∙ sym (getD-set-other (set l at x) (at + 1) (at + 2) y 0 far ∙ getD-set-other l at (at + 2) x 0 near) in
+    ap (λ (w : ℕ). set m (at + 2) w) same ∙ set-getD m (at + 2) 0
+
+first-stays : (l : List ℕ) (at x : ℕ) → x ≡ getD l at 0 → set l at x ≡ l
+first-stays l at x e = ap (λ (w : ℕ). set l at w) e ∙ set-getD l at 0
+
+-- p is the pair of block b, whose three bytes begin at `at`
+module _ (image : List ℕ) (b v at : ℕ) (p : TwoEntries) (bytes : Bytes image) (low : 2 ≤ b) (here : at ≡ pairByte b)
+    (pair : p ≡ entriesIn (threeBytes image at)) where
+  -- an even block's entry stored: EF stays, and D in CD
+  pub put-first : b % 2 ≡ 0 → putPair image at (record { first = v; second = p .second }) ≡ setEntry image b v
+  unfolding setEntry firstByte secondByte threeBytes entriesIn bytesFor
+  put-first even =
+      let t = are-bytes image at bytes in
+      let cd = getD image (at + 1) 0 in
+      let ef = getD image (at + 2) 0 in
+      let with-first : TwoEntries → List ℕ = λ q. putPair image at (record { first = v; second = q .second }) in
+      ap with-first pair
+      ∙ rw (parity-even b low even, even-byte b low even, ← here)
+      (rw (d-of cd ef (t .2)) (third-stays image at (v / 16) (v % 16 * 16 + cd % 16) _ (ef-of cd ef (t .2))))
+
+  -- an odd block's: AB stays, and C in CD
+  pub put-second : b % 2 ≡ 1 → putPair image at (record { first = p .first; second = v }) ≡ setEntry image b v
+  unfolding setEntry firstByte secondByte threeBytes entriesIn bytesFor
+  put-second odd =
+      let t = are-bytes image at bytes in
+      let ab = getD image at 0 in
+      let cd = getD image (at + 1) 0 in
+      let third : at + 1 + 1 ≡ at + 2 = omega arith in
+      let with-second : TwoEntries → List ℕ = λ q. putPair image at (record { first = q .first; second = v }) in
+      ap with-second pair
+      ∙ rw (parity-odd b low odd, odd-byte b low odd, ← here, third)
+      (rw (c-of ab cd (t .1), first-stays image at _ (ab-of ab cd (t .1))))
+
+-- ---- the decoded list
 
 -- the blocks below b are decoded
 abbrev pub Below : List ℕ → ℕ → List ℕ → Type 0

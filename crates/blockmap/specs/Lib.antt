@@ -1,4 +1,5 @@
 pub mod Decoded
+pub mod Stored
 pub mod Marks
 pub mod Places
 pub mod Free

@@ -1,26 +1,27 @@
 -- `decode` meets its contract. The invariant: b is even, `at` is the first byte of its pair, and the blocks below b are decoded.
 -- Assumes nothing.
 use Prim.Native.Nat.{_+_, _-_, _%_, _≤_}
-use mathlib.Core.Path.{_≡_, _∙_}
+use mathlib.Core.Path.{_≡_, _∙_, sym, ap}
 use native.Mathlib.Omega.{arith}
 use denote.Ref.{now}
 use lib.ListN.{length, length-set}
-use Rattle.model.specs.Map.{entryByte}
-use Rattle.blockmap.proofs.Pairs.{Below, first-entry, second-entry, below-more, below-all}
+use Rattle.model.specs.Map.{pairByte, threeBytes, entriesIn}
+use Rattle.model.proofs.Threes.{first-entry, entry-behind}
+use Rattle.blockmap.proofs.Pairs.{Below, below-more, below-all}
 use borrow.Author.Needs.{needs}
 use Rattle.blockmap.proofs.packed.decode.Statement.{statement}
 use Rattle.blockmap.proofs.packed.decode.Tie as tie
 
 abbrev Inv-loop : tie.InvT-loop
 Inv-loop image n entries₀ end at₀ b₀ entries at b =
-    (2 ≤ b) × (b % 2 ≡ 0) × (b ≤ n + 3) × (at ≡ entryByte b) × (length entries ≡ 642) × Below image b entries
+    (2 ≤ b) × (b % 2 ≡ 0) × (b ≤ n + 3) × (at ≡ pairByte b) × (length entries ≡ 642) × Below image b entries
 
 abbrev μ-loop : tie.MeasureT-loop
 μ-loop image n entries₀ end at₀ b₀ entries at b = n + 3 - b
 
--- the loop, from a pair's first entry, and the start, from the loop
-abbrev at-loop : tie.After-join-even Inv-loop μ-loop → tie.At-loop Inv-loop μ-loop
-at-loop c = c .before .before .before .before
+-- the loop, from where a pair is known, and the start, from the loop
+abbrev at-loop : tie.After-split Inv-loop μ-loop → tie.At-loop Inv-loop μ-loop
+at-loop c = c .before .before .before
 
 abbrev start : tie.At-loop Inv-loop μ-loop → tie.Start Inv-loop μ-loop
 start at = at .before .before .before
@@ -31,26 +32,11 @@ add-end c = omega arith
 loop-holds : tie.Need-loop-holds Inv-loop μ-loop
 loop-holds c = (omega arith, omega arith, omega arith, omega arith, c .entries .given .0 .1, λ i low high. absurd (omega arith))
 
-add-second : tie.Need-add-second Inv-loop μ-loop
-add-second c = omega arith
+three-bytes-requires : tie.Need-three-bytes-requires Inv-loop μ-loop
+three-bytes-requires c κs = omega arith
 
-shared-slice-read-second : tie.Need-shared-slice-read-second Inv-loop μ-loop
-shared-slice-read-second c = omega arith
-
-shared-slice-read-join-even : tie.Need-shared-slice-read-join-even Inv-loop μ-loop
-shared-slice-read-join-even c = omega arith
-
-join-even-requires : tie.Need-join-even-requires Inv-loop μ-loop
-join-even-requires c κs = search needs
-
-add-join-odd : tie.Need-add-join-odd Inv-loop μ-loop
-add-join-odd c = omega arith
-
-shared-slice-read-join-odd : tie.Need-shared-slice-read-join-odd Inv-loop μ-loop
-shared-slice-read-join-odd c = omega arith
-
-join-odd-requires : tie.Need-join-odd-requires Inv-loop μ-loop
-join-odd-requires c κs = search needs
+split-requires : tie.Need-split-requires Inv-loop μ-loop
+split-requires c κs = search needs
 
 mul-entries : tie.Need-mul-entries Inv-loop μ-loop
 mul-entries c = omega arith
@@ -65,7 +51,7 @@ mul-entries-2 : tie.Need-mul-entries-2 Inv-loop μ-loop
 mul-entries-2 c = omega arith
 
 slice-write-entries-2 : tie.Need-slice-write-entries-2 Inv-loop μ-loop
-slice-write-entries-2 c = let l = at-loop (c .before .before) .loop in omega (arith, length-set (l .entries) (l .b) (c .before .before .join-even .result))
+slice-write-entries-2 c = let l = at-loop c .loop in omega (arith, length-set (l .entries) (l .b) (c .split .result .first))
 
 add-at : tie.Need-add-at Inv-loop μ-loop
 add-at c = omega arith
@@ -78,12 +64,12 @@ loop-less c = omega arith
 
 loop-again : tie.Need-loop-again Inv-loop μ-loop
 loop-again c =
-    let pair = c .before .before in
-    let at = at-loop pair in
-    let l = at .loop in
-    let image = now (start at .args .image) in
-    let v = pair .join-even .ensures .0 ∙ first-entry image (l .b) (l .at) (l .inv .0) (l .inv .1) (l .inv .3) in
-    let w = c .join-odd .ensures .0 ∙ second-entry image (l .b) (l .at) (l .inv .0) (l .inv .1) (l .inv .3) in (
+    let l = at-loop c .loop in
+    let image = now (start (at-loop c) .args .image) in
+    let pair : c .split .result ≡ entriesIn (threeBytes image (pairByte (l .b))) =
+    c .split .ensures .0 ∙ ap entriesIn (c .before .three-bytes .ensures ∙ ap (threeBytes image) (l .inv .3)) in
+    let v = ap (λ p. p .first) pair ∙ sym (first-entry image (l .b) (l .inv .0) (l .inv .1)) in
+    let w = ap (λ p. p .second) pair ∙ sym (entry-behind image (l .b) (l .inv .0) (l .inv .1)) in (
       omega arith,
       omega arith,
       omega arith,
@@ -106,13 +92,8 @@ decode-spec =
     μ-loop
     add-end
     loop-holds
-    add-second
-    shared-slice-read-second
-    shared-slice-read-join-even
-    join-even-requires
-    add-join-odd
-    shared-slice-read-join-odd
-    join-odd-requires
+    three-bytes-requires
+    split-requires
     mul-entries
     slice-write-entries
     add-entries

@@ -1,59 +1,45 @@
--- `load` meets its contract: each branch is one case of `joined`. Assumes nothing.
+-- `load` meets its contract: the entry is the first of its three bytes, or the second, by the parity of its block. Assumes nothing.
 use native.Mathlib.Omega.{arith}
-use Rattle.model.specs.Map.{mapEntry, joined}
-use Rattle.blockmap.proofs.Bits.{even-place, odd-place}
+use mathlib.Core.Path.{_≡_, _∙_, sym, ap}
+use denote.Ref.{now}
+use Rattle.model.specs.Map.{pairByte, threeBytes, entriesIn}
+use Rattle.model.proofs.Threes.{first-entry, second-entry}
 use borrow.Author.Needs.{needs}
 use Rattle.blockmap.proofs.packed.load.Statement.{statement}
 use Rattle.blockmap.proofs.packed.load.Tie as tie
 
-entry-byte-requires : tie.Need-entry-byte-requires
-entry-byte-requires c κs = search needs
+pair-byte-requires : tie.Need-pair-byte-requires
+pair-byte-requires c κs = search needs
 
-shared-slice-read-first : tie.Need-shared-slice-read-first
-shared-slice-read-first c = search needs
+three-bytes-requires : tie.Need-three-bytes-requires
+three-bytes-requires c κs = search needs
 
-add-second : tie.Need-add-second
-add-second c = search needs
+split-requires : tie.Need-split-requires
+split-requires c κs = search needs
 
-shared-slice-read-second : tie.Need-shared-slice-read-second
-shared-slice-read-second c = search needs
+-- where the function starts, from where its pair is known
+abbrev start : tie.After-split → tie.Start
+start c = c .before .before .before .before
 
-join-even-requires : tie.Need-join-even-requires
-join-even-requires c κs = search needs
-
-join-odd-requires : tie.Need-join-odd-requires
-join-odd-requires c κs = search needs
-
--- the entry's place, from where its parity is asked, and the start, from there
-abbrev at-byte : tie.After-shared-slice-known3 → tie.After-entry-byte
-at-byte c = c .before .before
-
-abbrev start : tie.After-entry-byte → tie.Start
-start c = c .before .before
+-- the pair is that of the block's three bytes
+pair : (c : tie.After-split) → c .split .result ≡ entriesIn (threeBytes (now (start c .args .image)) (pairByte (start c .args .b .0)))
+pair c =
+    c .split .ensures .0
+    ∙ ap entriesIn (c .before .three-bytes .ensures ∙ ap (threeBytes (now (start c .args .image))) (c .before .before .pair-byte .ensures))
 
 returns : tie.Need-returns
-unfolding mapEntry joined
 returns c =
-    let place = at-byte (c .before .before) in
-    let even = even-place (start place .args .b .0) (omega arith) (c .before .if1 .taken) in
-    rw (even, ← place .entry-byte .ensures) (c .join-even .ensures)
+    let k = c .before .before in
+    let a = start k .args in
+    let e = first-entry (now (a .image)) (a .b .0) (omega arith) (omega arith) in
+    (ap (λ p. p .first) (pair k) ∙ sym e, k .split .ensures .1 .0)
 
 returns-2 : tie.Need-returns-2
-unfolding mapEntry joined
 returns-2 c =
-    let place = at-byte (c .before .before) in
-    let odd = odd-place (start place .args .b .0) (omega arith) (c .before .if1 .left) in
-    rw (odd, ← place .entry-byte .ensures) (c .join-odd .ensures)
+    let k = c .before .before in
+    let a = start k .args in
+    let e = second-entry (now (a .image)) (a .b .0) (omega arith) (omega arith) in
+    (ap (λ p. p .second) (pair k) ∙ sym e, k .split .ensures .1 .1)
 
 pub load-spec : {M : Type 1} → statement M
-load-spec =
-    tie.close
-    (tie.spec
-    entry-byte-requires
-    shared-slice-read-first
-    add-second
-    shared-slice-read-second
-    join-even-requires
-    join-odd-requires
-    returns
-    returns-2)
+load-spec = tie.close (tie.spec pair-byte-requires three-bytes-requires split-requires returns returns-2)
