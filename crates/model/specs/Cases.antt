@@ -604,8 +604,8 @@ oddMap = 0xab ∷ 0xcd ∷ 0xef ∷ 0x12 ∷ 0x3f ∷ []
 unfoldable pub lastPair : List ℕ → List ℕ
 lastPair three = zeros 957 ++ three
 
--- Prove that the entry is the first of its three bytes where the block number is even and the second where it is odd, and that two
--- entries and their three bytes each give back the other.
+-- document 02, T-04: two entries and their three bytes each give back the other, and the entry is the first of its three bytes where
+-- the block number is even and the second where it is odd
 unfoldable pub threes : List Row
 threes =
     splits 0xab 0xcd 0xef 0xabc 0xdef

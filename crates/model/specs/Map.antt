@@ -45,7 +45,7 @@ setEntry image b v =
     (entryByte b + 1)
     (secondByte ((b - 2) % 2) (byte image (entryByte b + 1)) v)
 
--- ---- Three bytes and two entries, as the book has it (T-04)
+-- ---- Three bytes and two entries, as the book has it (document 02, T-04)
 
 -- the first of the three bytes of block b's pair: 1088 for blocks 2 and 3, 1091 for 4 and 5. It is `entryByte b` where b is even,
 -- and the byte before that where b is odd.
@@ -71,7 +71,7 @@ AreBytes t = (t .ab < 256) × (t .cd < 256) × (t .ef < 256)
 abbrev pub AreEntries : TwoEntries → Type 0
 AreEntries e = (e .first < 4096) × (e .second < 4096)
 
--- What T-04 wants proved:
+-- What is wanted proved:
 pub record TwoInThree : Type 0 where
   -- The entry is the first of its three bytes where the block number is even
   pub even : (image : List ℕ) (b : ℕ) → 2 ≤ b → b % 2 ≡ 0 → mapEntry image b ≡ entriesIn (threeBytes image (pairByte b)) .first
