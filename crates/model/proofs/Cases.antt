@@ -135,6 +135,9 @@ module _ (header content behind : List ℕ) (h : length header ≡ 84) (l : leng
 abbrev pub row : {A B : Type 0} {x : A} {y : B} → (x ≡ x) × (y ≡ y)
 row = (refl, refl)
 
+abbrev looked : {A B C : Type 0} {x : A} {y : B} {z : C} → (x ≡ x) × (y ≡ y) × (z ≡ z)
+looked = (refl, refl, refl)
+
 pub cases : PCases
 unfolding everything pCases PCases
 cases = row & row & refl & row & row & row & row & row & row & row & row & row & row & row & row & passes-391 & gives-392 & end
@@ -228,5 +231,5 @@ further = (
   row & row & row & row & row & row & row & row & row & row & row & end,
   containers-right,
   accented-right,
-  row & row & row & row & row & row & row & row & row & row & row & row & refl & refl & refl & refl & end,
+  row & row & row & row & row & row & looked & looked & looked & looked & looked & looked & refl & refl & refl & refl & end,
 )

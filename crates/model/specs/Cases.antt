@@ -153,8 +153,8 @@ pub data Row : Type 0 where
   alone : (bytes : List ℕ) → Row
   -- three bytes and two entries each give the other
   splits : (ab cd ef first second : ℕ) → Row
-  -- in an image whose bytes from 1088 on are these, a block's three bytes and its entry
-  looks : (bytes : List ℕ) (b ab cd ef value : ℕ) → Row
+  -- in an image whose bytes from 1088 on are these, where a block's three bytes begin, what they are, and its entry
+  looks : (bytes : List ℕ) (b at ab cd ef value : ℕ) → Row
   -- the same image with that entry for a block: its bytes from 1088 on
   puts : (bytes : List ℕ) (b value : ℕ) (left : List ℕ) → Row
 
@@ -199,8 +199,8 @@ Right (alone bytes) = (i : ℕ) → i < length bytes → (c : ℕ) → sameByte 
 Right (splits ab cd ef first second) =
     (entriesIn (record { ab = ab; cd = cd; ef = ef }) ≡ record { first = first; second = second })
     × (bytesFor (record { first = first; second = second }) ≡ record { ab = ab; cd = cd; ef = ef })
-Right (looks bytes b ab cd ef value) =
-    (threeBytes (zeros 1088 ++ bytes) (pairByte b) ≡ record { ab = ab; cd = cd; ef = ef }) × (mapEntry (zeros 1088 ++ bytes) b ≡ value)
+Right (looks bytes b at ab cd ef value) =
+    (pairByte b ≡ at) × (threeBytes (zeros 1088 ++ bytes) at ≡ record { ab = ab; cd = cd; ef = ef }) × (mapEntry (zeros 1088 ++ bytes) b ≡ value)
 Right (puts bytes b value left) = setEntry (zeros 1088 ++ bytes) b value ≡ zeros 1088 ++ left
 
 -- every row of the list
@@ -615,12 +615,12 @@ threes =
     ∷ splits 0xff 0xf0 0x00 4095 0
     ∷ splits 0x00 0x0f 0xff 0 4095
     -- both blocks of a pair have the same three bytes; N odd; the last block that there can be
-    ∷ looks twoPairs 2 0xab 0xcd 0xef 0xabc
-    ∷ looks twoPairs 3 0xab 0xcd 0xef 0xdef
-    ∷ looks twoPairs 4 0x12 0x34 0x56 0x123
-    ∷ looks twoPairs 5 0x12 0x34 0x56 0x456
-    ∷ looks (oddMap ++ (0x99 ∷ [])) 4 0x12 0x3f 0x99 0x123
-    ∷ looks (lastPair (0xab ∷ 0xcd ∷ 0xef ∷ [])) 641 0xab 0xcd 0xef 0xdef
+    ∷ looks twoPairs 2 1088 0xab 0xcd 0xef 0xabc
+    ∷ looks twoPairs 3 1088 0xab 0xcd 0xef 0xdef
+    ∷ looks twoPairs 4 1091 0x12 0x34 0x56 0x123
+    ∷ looks twoPairs 5 1091 0x12 0x34 0x56 0x456
+    ∷ looks (oddMap ++ (0x99 ∷ [])) 4 1091 0x12 0x3f 0x99 0x123
+    ∷ looks (lastPair (0xab ∷ 0xcd ∷ 0xef ∷ [])) 641 2045 0xab 0xcd 0xef 0xdef
     -- a store keeps the pair's other entry, and dead space
     ∷ puts twoPairs 2 0x789 (0x78 ∷ 0x9d ∷ 0xef ∷ 0x12 ∷ 0x34 ∷ 0x56 ∷ [])
     ∷ puts twoPairs 3 0x789 (0xab ∷ 0xc7 ∷ 0x89 ∷ 0x12 ∷ 0x34 ∷ 0x56 ∷ [])
