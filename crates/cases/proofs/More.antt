@@ -4,7 +4,7 @@ use Rattle.model.specs.Cases.{AllRight, end, _&_}
 use Rattle.model.proofs.Cases.{everything, row}
 use Rattle.cases.specs.More.{badVolumes, readings, creations, changings, orders, oldDisk, borderDisk, foldings, sampled, speltDisk, lockedDisk, spellings}
 use Rattle.cases.specs.More.{contents, wideDisk, wideGrown, wideForks, oldFacts, oldNames}
-use Rattle.cases.specs.More.{limited, Limits, MoreCases}
+use Rattle.cases.specs.More.{leftDisk, renames, limited, Limits, MoreCases}
 
 bad-volumes : AllRight badVolumes
 unfolding everything badVolumes
@@ -47,10 +47,27 @@ all-old-names : AllRight oldNames
 unfolding everything oldDisk oldFacts oldNames
 all-old-names = row & row & row & row & row & row & row & row & row & row & row & row & row & row & row & end
 
+all-renames : AllRight renames
+unfolding everything sampled leftDisk renames
+all-renames = row & row & row & row & row & row & row & row & row & row & row & row & row & row & row & row & row & row & row & row & row & end
+
 limits : Limits
 unfolding everything limited Limits
 limits = (refl, refl, refl, refl, refl, refl, refl, refl)
 
 pub more : MoreCases
 unfolding MoreCases
-more = (bad-volumes, all-readings, all-creations, all-changings, all-orders, all-foldings, all-spellings, all-contents, all-wide-forks, all-old-names, limits)
+more = (
+  bad-volumes,
+  all-readings,
+  all-creations,
+  all-changings,
+  all-orders,
+  all-foldings,
+  all-spellings,
+  all-contents,
+  all-wide-forks,
+  all-old-names,
+  all-renames,
+  limits,
+)

@@ -8,10 +8,10 @@ use Rattle.model.specs.Bytes.{bytes16, bytes32, zeros}
 use Rattle.model.specs.Facts.{factsIn}
 use Rattle.model.specs.Check.{fires1, fires3}
 use Rattle.model.specs.Calls.{only, tellsFacts, tellsEntry, tellsBlock}
-use Rattle.model.specs.Calls.Call.{check, entry, find, block, read, create, write, cut, delete}
+use Rattle.model.specs.Calls.Call.{check, entry, find, block, read, create, write, cut, delete, rename}
 use Rattle.model.specs.Cases.{Row, AllRight, bad, refused, info, disk, forkBytesOf, entryBytes, WEEK1, week1, RATES, NEWS, ratesEntry, hall, withBytes}
 use Rattle.model.specs.Cases.{withWeek1, sample, weekFacts, hallFacts, ratesFacts, newsEntry, staleDisk, deadDisk, fullWeek, resourceDisk, roomyDisk, longName}
-use Rattle.model.specs.Cases.{hallMap, longDisk, twoBlocks, tellsRead}
+use Rattle.model.specs.Cases.{hallMap, longDisk, twoBlocks, tellsRead, three, NEW, accentDisk, BAD, dated, tightDisk, freeCount3}
 use Rattle.model.specs.Cases.Row.{does}
 use Rattle.model.specs.declared.DirectoryEntry.{DirectoryEntry}
 use Rattle.model.specs.declared.Fork.the-variants.{Data, Resource}
@@ -312,6 +312,51 @@ oldNames =
     ∷ refused 13 (delete (longName 67 32)) oldDisk
     ∷ []
 
+-- three directory blocks: tightDisk's, one with NEWS, one without a file; in each, bytes behind the reading
+unfoldable pub leftDisk : List ℕ
+leftDisk = withBytes 2558 (0x7f ∷ 0xee ∷ []) (tightDisk 3 (newsEntry 5 0 ++ (0x7f ∷ (sample 0 455 ++ (0x7f ∷ sample 0 99)))) 5)
+
+-- T-05: the order of the refusals, the limits of names and of room, names in another spelling, and what stays
+unfoldable pub renames : List Row
+renames =
+    -- 10 before 11, 11 before 12, 12 of either name before 21; 21 for its own long name
+    refused 10 (rename WEEK1 BAD 9) (withBytes 1034 (bytes16 0x0080) freeCount3)
+    ∷ refused 11 (rename [] [] 9) (withBytes 1034 (bytes16 0x0080) hall)
+    ∷ refused 12 (rename [] (longName 67 32) 9) hall
+    ∷ refused 12 (rename (longName 65 256) BAD 9) hall
+    ∷ refused 12 (rename NEWS [] 9) hall
+    ∷ refused 12 (rename WEEK1 (longName 67 256) 9) hall
+    ∷ refused 21 (rename (longName 65 255) (longName 65 255) 9) (longDisk 155)
+    -- 13 before 14, 15 before 18, 14 before 18
+    ∷ refused 13 (rename NEWS RATES 9) hall
+    ∷ refused 13 (rename NEWS NEWS 9) hall
+    ∷ refused 15 (rename RATES (longName 67 31) 9) (withBytes 2502 (0x81 ∷ []) (tightDisk 1 [] 4))
+    ∷ refused 14 (rename RATES (longName 98 31) 9) (tightDisk 1 [] 4)
+    -- room to the block's last byte, and two bytes short
+    ∷ does (tightDisk 1 [] 4) (rename RATES (longName 67 7) 9) (only 0 [])
+    (withBytes 2502 (entryBytes 0x80 2 (forkBytesOf 3 512 512) (zeros 10) 2500000000 9 (longName 67 7) []) (tightDisk 1 [] 4))
+    ∷ refused 18 (rename RATES (longName 67 8) 9) (tightDisk 1 [] 4)
+    -- its own block has room only once it is out, and a later one all along
+    ∷ does leftDisk (rename RATES (longName 67 7) 9) (only 0 []) (withBytes 2548 (dated 9 (longName 67 7) []) leftDisk)
+    -- out of the middle into a later block: bytes behind the reading go in these two blocks, and stay in the third
+    ∷ does leftDisk (rename (longName 68 15) (longName 67 31) 9) (only 0 [])
+    (withBytes 2436 (ratesEntry ++ zeros 68)
+    (withBytes 2616 (entryBytes 0x80 4 (zeros 10) (zeros 10) 7 9 (longName 67 31) [] ++ zeros 374) leftDisk))
+    -- equal size: they stay in all
+    ∷ does leftDisk (rename RATES (longName 67 5) 9) (only 0 []) (withBytes 2548 (dated 9 (longName 67 5) []) leftDisk)
+    -- another file's name in another directory block
+    ∷ refused 14 (rename (longName 66 75) (114 ∷ 97 ∷ 116 ∷ 101 ∷ 115 ∷ []) 9) twoBlocks
+    -- an accented name to its other case; 14 by another's other spelling
+    ∷ does (accentDisk NEW (three 0x83 0x74 0x8e)) (rename (three 0x8e 0x54 0x83) (three 0x8e 0x74 0x83) 9) (only 0 [])
+    (withBytes 2148 (dated 9 (three 0x8e 0x74 0x83) []) (accentDisk NEW (three 0x83 0x74 0x8e)))
+    ∷ refused 14 (rename NEW (three 0x8e 0x74 0x8e) 9) (accentDisk NEW (three 0x83 0x74 0x83))
+    -- no file number is needed; both forks, and all bytes outside the directory, stay
+    ∷ does (withBytes 1054 (bytes32 4294967295) hall) (rename WEEK1 week1 9) (only 0 [])
+    (withBytes 2094 (dated 9 week1 []) (withBytes 1054 (bytes32 4294967295) hall))
+    ∷ does (sampled resourceDisk) (rename RATES BAD 9) (only 0 [])
+    (withBytes 2104 (entryBytes 0x80 2 (forkBytesOf 3 512 512) (forkBytesOf 5 3 512) 2500000000 9 BAD (0 ∷ [])) (sampled resourceDisk))
+    ∷ []
+
 -- check 3 on an image of 65,535 blocks with these N, A and directory length
 unfoldable pub limited : ℕ → ℕ → ℕ → Bool
 limited n a dirLength =
@@ -345,4 +390,5 @@ MoreCases =
     × AllRight contents
     × AllRight wideForks
     × AllRight oldNames
+    × AllRight renames
     × Limits

@@ -9,7 +9,7 @@ use native.Mathlib.Nat.{zero-div}
 use lib.ListN.{length, getD, length-map}
 use lib.Dec.{eqb, leb}
 use borrow.Author.Tests.{not-false, eqb-true, eq-eqb, leb-false}
-use Rattle.model.specs.Lists.{any, distinct, first, placeOf}
+use Rattle.model.specs.Lists.{any, distinct, keep, first, placeOf}
 use Rattle.model.specs.Bytes.{byte, be16, be32}
 use Rattle.model.specs.Facts.{factsOf, A, nextNumber, freeCount, isLocked, withCounts, noFacts}
 use Rattle.model.specs.Directory.{directory, numberIn, nameIn, finderIn, forkIn, forkOf, wide, entryIn}
@@ -24,14 +24,14 @@ use Rattle.history.specs.History.{asked, writes, rise}
 use Rattle.model.specs.declared.VolumeFacts.{VolumeFacts}
 use Rattle.model.specs.declared.Fork.{Fork}
 use Rattle.model.specs.declared.Fork.the-variants.{Data, Resource}
-use Rattle.model.proofs.Lists.{reordered-any, reordered-length}
+use Rattle.model.proofs.Lists.{keep-map, reordered-any, reordered-keep, reordered-length}
 use Rattle.model.proofs.Names.{eqb-comm, same-name-comm, same-name-trans}
 use Rattle.model.proofs.Check.{else-zero}
 use Rattle.laws.proofs.Reorder.{first-same, first-map, first-at, first-found, any-map, distinct-map}
 use Rattle.laws.proofs.Kept.{numbers-differ}
 use Rattle.laws.proofs.DirectorySteps.{names-now}
 use Rattle.laws.proofs.Content.{length-overwritten}
-use Rattle.laws.proofs.Refusals.{own-is}
+use Rattle.laws.proofs.Refusals.{own-is, withFull}
 use Rattle.laws.proofs.Acceptance.{readable-of, whole, lengths, name-length, named-length}
 
 -- ---- new blocks
@@ -70,6 +70,16 @@ module _ (image : List ℕ) (h : History) (a : Agrees image h) where
   unfolding filesIn named called fileIn
   same-any name =
       sym (any-map (called name) (named name) (fileIn (factsOf image) image) (λ e. refl) (directory image)) ∙ reordered-any (called name) (a .files)
+
+  -- another file of a name
+  pub same-other : (name new : List ℕ)
+      → any (named new) (keep (λ e. not (named name e)) (directory image)) ≡ any (called new) (keep (λ x. not (called name x)) (h .files))
+  unfolding filesIn named called fileIn
+  same-other name new =
+      let tell = fileIn (factsOf image) image in
+      sym (any-map (called new) (named new) tell (λ e. refl) (keep (λ e. not (named name e)) (directory image)))
+      ∙ ap (any (called new)) (sym (keep-map tell (λ e. not (named name e)) (λ x. not (called name x)) (λ e. refl) (directory image)))
+      ∙ reordered-any (called new) (reordered-keep (λ x. not (called name x)) (a .files))
 
 -- no bytes read as no file
 pub no-file : (f : VolumeFacts) (image : List ℕ) → fileIn f image [] ≡ noFile
@@ -141,9 +151,9 @@ only-told n buffer = λ i. record { number = n; facts = noFacts; entry = no-star
 
 module _ (image : List ℕ) (h : History) (acc : Accepted image) (a : Agrees image h) where
   -- what is known
-  pub known-same : (name : List ℕ) (fork : Fork) → knownTo h (knownIn image name fork .full) name fork ≡ knownIn image name fork
-  unfolding knownTo knownIn heldIn fileIn
-  known-same name fork =
+  pub known-same : (full : Bool) (name : List ℕ) (fork : Fork) → knownTo h full name fork ≡ withFull (knownIn image name fork) full
+  unfolding knownTo knownIn withFull heldIn fileIn
+  known-same full name fork =
       let x = same-first image h acc a name in
       let g = same-held image h acc a name fork in
       λ i. record {
@@ -156,7 +166,9 @@ module _ (image : List ℕ) (h : History) (acc : Accepted image) (a : Agrees ima
         size = sym (same-A image h a) i;
         free = sym (same-free image h a) i;
         next = sym (same-next image h a) i;
-        full = knownIn image name fork .full;
+        full = full;
+        another = λ new. sym (same-other image h a name new) i;
+        crowded = λ new. full;
       }
 
   -- an entry

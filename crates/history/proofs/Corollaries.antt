@@ -1,16 +1,16 @@
--- What the auditor asks, from the claim on every run: a file that no call names stays, a delete touches no other file, no date is
--- made up, "disk full" means no room, a read gives what was written, and no list of calls falls out of the claim.
+-- What the auditor asks, from the claim on every run: a file that no call names stays, a delete touches no other file, a rename
+-- changes a name and a date alone, no date is made up, "disk full" means no room, a read gives what was written, and no list of calls falls out of the claim.
 use Prim.Native.Nat.{ℕ, _+_, _-_, _≤_, _<_}
 use mathlib.Core.Path.{_≡_, refl, sym, ap, subst, _∙_}
 use mathlib.Core.Bool.{Bool, true, false, not, _&&_, cond}
-use mathlib.Core.List.{List, [], _∷_, _++_, append-assoc, append-nil}
+use mathlib.Core.List.{List, [], _∷_, _++_, map, append-assoc, append-nil}
 use mathlib.Core.Logic.{_↔_, ⊎-elim}
 use native.Mathlib.Omega.{arith}
 use lib.ListN.{length, drop, length-append}
 use lib.Seq.{drop-length}
 use lib.Dec.{eqb, ltb}
 use borrow.Author.Tests.{not-false, eqb-true, eq-eqb, ltb-false, le-ltb}
-use Rattle.model.specs.Lists.{any, flat, none}
+use Rattle.model.specs.Lists.{any, flat, none, Reordered}
 use Rattle.model.specs.Bytes.{Bytes, part}
 use Rattle.model.specs.Facts.{factsOf, N, A, freeCount}
 use Rattle.model.specs.Map.{mapEntry}
@@ -18,15 +18,16 @@ use Rattle.model.specs.Directory.{directory, forkOf, forksIn, blockCount, sameN
 use Rattle.model.specs.Check.{Accepted}
 use Rattle.model.specs.Calls.{Call, Answer, nameOf, forkGiven, Known, badName, refuses, entryNamed, knownIn, readCount, copied}
 use Rattle.model.specs.Calls.{newBlocks, answer, after, lent, Does}
-use Rattle.model.specs.Calls.Call.{read, write, delete}
+use Rattle.model.specs.Calls.Call.{read, write, delete, rename}
 use Rattle.history.specs.History.{File, History, blocksOf, noFile, heldOf, called, fileCalled, knownTo, declines, writes}
 use Rattle.model.specs.Bytes.{overwritten}
-use Rattle.history.specs.History.{changedFork, onCalled, moves, step, datesGiven, Told, toldBy, toldOnly, says, tells, filesIn, reading, Agrees}
-use Rattle.history.specs.History.{Event, Run, is18, asked, compared, changes, RoomRule, InStep, Holds, EveryRun}
+use Rattle.history.specs.History.{changedFork, retitledFile, onCalled, moves, step, touches, datesGiven, Told, toldBy, toldOnly, says, tells, filesIn}
+use Rattle.history.specs.History.{reading, Agrees, Event, Run, is18, asked, compared, RoomRule, InStep, Holds, EveryRun}
 use Rattle.history.specs.Among.{HasFile, lastImage}
 use Rattle.history.specs.Untouched.{NoneNames, Untouched}
 use Rattle.history.specs.Deleting.{Deleting}
-use Rattle.history.specs.Dates.{touches, Dates}
+use Rattle.history.specs.Renaming.{Renaming}
+use Rattle.history.specs.Dates.{touched, Dates}
 use Rattle.history.specs.Room.{Room}
 use Rattle.history.specs.InPieces.{Writes, InPieces}
 use Rattle.history.specs.ReadBack.{ReadBack}
@@ -35,9 +36,10 @@ use Rattle.model.specs.declared.Fork.{Fork}
 use Rattle.model.specs.declared.Fork.the-variants.{Data, Resource}
 use Rattle.model.proofs.Lists.{back, so-not}
 use Rattle.model.proofs.Check.{else-zero}
-use Rattle.laws.proofs.Reorder.{any-map, passes-still, first-changed, In, in-reordered}
+use Rattle.laws.proofs.Reorder.{any-map, passes-still, first-changed, In, in-reordered, in-changed, from-map}
 use Rattle.laws.proofs.Content.{length-overwritten, more-bytes, length-on}
 use Rattle.laws.proofs.MapChecks.{all-blocks}
+use Rattle.laws.proofs.Refusals.{withFull}
 use Rattle.laws.proofs.Acceptance.{map-passes}
 use Rattle.history.proofs.Answers.{rise-needed, same-free, known-same}
 use Rattle.history.proofs.Reading.{blocks-of}
@@ -51,8 +53,8 @@ one-step e image acc m = let h : Holds image (reading image) (e ∷ []) = every-
 
 -- ---- Untouched and Deleting
 
--- a file that no changing call names stays in the history
-step-keeps : (h : History) (full : Bool) (call : Call) (x : File) → (changes call && called (nameOf call) x) ≡ false → In noFile x (h .files)
+-- a file that the call does not touch stays in the history
+step-keeps : (h : History) (full : Bool) (call : Call) (x : File) → touches call (x .name) ≡ false → In noFile x (h .files)
     → In noFile x (step h full call .files)
 unfolding step
 step-keeps h full call x n i = go (eqb (declines h full call) 0)
@@ -75,7 +77,7 @@ untouched image events x acc r i n =
     stays events image (reading image) x (c .0) (c .1) n i
 
 pub deleting : Deleting
-unfolding Deleting Untouched Run NoneNames lastImage changes nameOf
+unfolding Deleting Untouched Run NoneNames lastImage touches
 deleting image name left given x acc m n i =
     let e : Event = record { call = delete name; given = given; left = left } in
     untouched image (e ∷ []) x acc (m, tt) i (n, tt)
@@ -85,14 +87,14 @@ deleting image name left given x acc m n i =
 only-full : (image name : List ℕ) (fork : Fork) (offset : ℕ) (bytes : List ℕ) (changed : ℕ) (given : Answer) (left : List ℕ)
     → Accepted image → Does (write name fork offset bytes changed) image given left → given .number ≡ 17
     → freeCount (factsOf image) < newBlocks (factsOf image) (forkOf fork (entryNamed name image)) offset (length bytes)
-unfolding newBlocks RoomRule reading knownTo knownIn EveryRun Run filesIn
+unfolding newBlocks RoomRule reading knownTo knownIn withFull EveryRun Run filesIn
 only-full image name fork offset bytes changed given left acc m n =
     let f = factsOf image in
     let e : Event = record { call = write name fork offset bytes changed; given = given; left = left } in
     let h = reading image in
     let a : Agrees image h = every-run image [] acc tt .0 in
     let none = one-step e image acc m .room .0 n in
-    let k = known-same image h acc a name fork in
+    let k = known-same image h acc a false name fork in
     let held = heldOf fork (fileCalled name h) in
     let logical : length (held .bytes) ≡ forkOf fork (entryNamed name image) .logical = ap (λ (k : Known). k .logical) k in
     let blocks : held .count ≡ blockCount (A f) (forkOf fork (entryNamed name image)) = ap (λ (k : Known). k .blocks) k in
@@ -124,27 +126,43 @@ declined : (e : Event) (image : List ℕ) (h : History) → InStep e image h →
 unfolding toldBy
 declined e image h s k = ap (λ (t : Told). t .number) (s .told k) ∙ told-number h (is18 e) (asked image (e .call)) (e .call)
 
+-- ---- Renaming
+
+pub renaming : Renaming
+unfolding Renaming reading step moves compared
+renaming image name new left changed given acc m z =
+    let call = rename name new changed in
+    let e : Event = record { call = call; given = given; left = left } in
+    let h = reading image in
+    let f = onCalled name (retitledFile new changed) in
+    let s = one-step e image acc m in
+    let n : declines h (is18 e) call ≡ 0 = sym (declined e image h s refl) ∙ z in
+    let r : Reordered (filesIn left) (map f (filesIn image)) = rw n at (s .agrees .files) in (
+      λ x i. in-reordered noFile (f x) (back r) (in-changed noFile x f (filesIn image) i),
+      λ y i. from-map noFile y f (filesIn image) (in-reordered noFile y r i),
+    )
+
 -- ---- Dates
 
 -- a file of the history after a call that gives this number
 step-dates : (h : History) (full : Bool) (call : Call) (x : File) (number : ℕ) → number ≡ declines h full call → In noFile x (step h full call .files)
-    → Dated call h x (eqb number 0 && (changes call && called (nameOf call) x))
+    → Dated call h x (eqb number 0 && touches call (x .name))
 unfolding step
 step-dates h full call x number n i =
     go (eqb (declines h full call) 0) refl i
   where
     go : (b : Bool) → eqb (declines h full call) 0 ≡ b → In noFile x (cond b (moves h call) h .files)
-        → Dated call h x (eqb number 0 && (changes call && called (nameOf call) x))
+        → Dated call h x (eqb number 0 && touches call (x .name))
     go true e j = rw (n, e) (lawful call .dates h full x (eqb-true (declines h full call) 0 e) j)
     go false e j = rw (n, e) (λ f. j, λ t. absurd (so-not false refl t))
 
 -- a file that a call of that number does not touch stays
 step-stays : (h : History) (full : Bool) (call : Call) (x : File) (number : ℕ) → number ≡ declines h full call
-    → (eqb number 0 && (changes call && called (nameOf call) x)) ≡ false → In noFile x (h .files) → In noFile x (step h full call .files)
+    → (eqb number 0 && touches call (x .name)) ≡ false → In noFile x (h .files) → In noFile x (step h full call .files)
 unfolding step
 step-stays h full call x number n t i = go (eqb (declines h full call) 0) (rw n at t)
   where
-    go : (b : Bool) → (b && (changes call && called (nameOf call) x)) ≡ false → In noFile x (cond b (moves h call) h .files)
+    go : (b : Bool) → (b && touches call (x .name)) ≡ false → In noFile x (cond b (moves h call) h .files)
     go true u = lawful call .keeps h x u i
     go false u = i
 
@@ -153,17 +171,17 @@ module _ (image left : List ℕ) (call : Call) (given : Answer) (x : File) (s : 
   where
     abbrev Kept : Type 0
     Kept =
-        (touches call given x ≡ false → (HasFile left x ↔ HasFile image x))
-        × (touches call given x ≡ true → HasFile left x → datesGiven call (HasFile image) x)
+        (touched call given x ≡ false → (HasFile left x ↔ HasFile image x))
+        × (touched call given x ≡ true → HasFile left x → datesGiven call (HasFile image) x)
 
     -- its answer is compared
     compared-dates : Compared call → Kept
-    unfolding touches reading
+    unfolding touched reading
     compared-dates c =
         let e : Event = record { call = call; given = given; left = left } in
         let h = reading image in
         let n = declined e image h s (c .asked) in
-        let from : HasFile left x → Dated call h x (eqb (given .number) 0 && (changes call && called (nameOf call) x)) =
+        let from : HasFile left x → Dated call h x (eqb (given .number) 0 && touches call (x .name)) =
         λ i. step-dates h (is18 e) call x (given .number) n (in-reordered noFile x (s .agrees .files) i) in (
           λ t. (λ i. from i .0 t, λ i. in-reordered noFile x (back (s .agrees .files)) (step-stays h (is18 e) call x (given .number) n t i)),
           λ t i. from i .1 t,
@@ -171,12 +189,12 @@ module _ (image left : List ℕ) (call : Call) (given : Answer) (x : File) (s : 
 
     -- it stands aside, and leaves the image
     aside-dates : Aside call → Kept
-    unfolding touches
+    unfolding touched
     aside-dates c =
         let same : left ≡ image = s .still (rw (c .unchanging)) in
         let not : (n : Bool) → (n && false) ≡ false = λ n. elim n [ true ↦ refl | false ↦ refl ] in (
           λ t. (λ i. rw same at i, λ i. rw same i),
-          λ t. absurd (so-not _ (not (eqb (given .number) 0)) (rw (c .unchanging) at t)),
+          λ t. absurd (so-not _ (not (eqb (given .number) 0)) (rw (c .untouching (x .name)) at t)),
         )
 
 pub dates : Dates

@@ -2,7 +2,7 @@
 -- with a clause for each call.
 use Prim.Native.Nat.{ℕ}
 use mathlib.Core.Path.{_≡_, refl, sym, ap, subst, _∙_}
-use mathlib.Core.Bool.{Bool, true, false, not, _&&_, cond}
+use mathlib.Core.Bool.{Bool, true, false, not, _&&_, _||_, cond, or-true}
 use mathlib.Core.List.{List, [], _∷_, _++_, map}
 use mathlib.Core.Logic.{_⊎_, inl, inr}
 use lib.ListN.{length}
@@ -13,25 +13,28 @@ use Rattle.model.specs.Check.{orElse, verdict, Accepted}
 use Rattle.model.specs.Container.{badLengths}
 use Rattle.model.specs.Calls.{Call, nameOf, forkGiven, Known, grown, needed, badName, tooLong, checks, refuses, refusal, change, only, reply, after, Fits}
 use Rattle.model.specs.Calls.{Answer, tellsFacts, tellsEntry, tellsBlock, tellsBytes}
-use Rattle.model.specs.Calls.Call.{check, entry, find, block, read, create, write, cut, delete, wrap}
+use Rattle.model.specs.Calls.Call.{check, entry, find, block, read, create, write, cut, delete, wrap, rename}
 use Rattle.history.specs.History.{File, History, noFile, heldOf, called, fileCalled, knownTo, declines, onCalled, Told, toldBy, toldOnly}
-use Rattle.history.specs.History.{Held, newFile, changedFork, dateChanged, datesGiven, says, moves, asked, compared, changes, RoomRule, Agrees}
-use Rattle.model.specs.Lists.{any}
+use Rattle.history.specs.History.{Held, newFile, changedFork, retitledFile, dateChanged, touches, datesGiven, says, moves, asked, compared}
+use Rattle.history.specs.History.{changes, RoomRule, Agrees}
+use Rattle.model.specs.Lists.{any, keep}
+use Rattle.model.specs.Directory.{sameName}
 use Rattle.model.specs.Facts.{nextNumber}
 use Rattle.model.specs.declared.Fork.{Fork}
 use Rattle.model.specs.declared.Fork.the-variants.{Data}
-use Rattle.model.proofs.Lists.{so-not, any-at}
+use Rattle.model.proofs.Lists.{so-not, or-false, any-at}
 use Rattle.model.proofs.Names.{same-name-refl}
 use Rattle.model.proofs.Check.{else-zero, accepted-verdict}
 use Rattle.laws.proofs.Calls.{first-alone}
 use Rattle.laws.proofs.Reorder.{In, in-map, in-keep, in-append, from-last, from-map, from-keep}
-use Rattle.laws.proofs.Refusals.{no-check, other, other-found, other-change, past, fires, withFull, create-fed, create-never}
+use Rattle.laws.proofs.Refusals.{no-check, other, other-found, other-change, past, fires, withFull, create-fed, create-never, rename-fed, rename-never}
 use Rattle.history.proofs.Answers.{rise-needed, only-told, check-says, entry-says, find-says, read-says}
 use Rattle.history.proofs.Joined.{Done, stays}
 use Rattle.history.proofs.Creates.{create-done}
 use Rattle.history.proofs.Writes.{write-done}
 use Rattle.history.proofs.Cuts.{cut-done}
 use Rattle.history.proofs.Deletes.{delete-done}
+use Rattle.history.proofs.Renames.{rename-done}
 
 -- a file of the history after a call: it was there before where the call does not touch it, and has the call's dates where it does
 abbrev pub Dated : Call → History → File → Bool → Type 0
@@ -41,6 +44,7 @@ Dated call h x touched = (touched ≡ false → In noFile x (h .files)) × (touc
 pub record Aside (call : Call) : Type 0 where
   pub uncompared : compared call ≡ false
   pub unchanging : changes call ≡ false
+  pub untouching : (name : List ℕ) → touches call name ≡ false
   pub stays : (h : History) → moves h call ≡ h
   pub room : (image : List ℕ) (h : History) → Accepted image → RoomRule h call (refusal call image)
 
@@ -68,17 +72,17 @@ pub record Lawful (call : Call) : Type 0 where
   pub done : (image : List ℕ) (h : History) → Accepted image → Agrees image h → Bytes image → Fits call → refusal call image ≡ 0
       → Done call image h
   -- a file that it does not change by name stays in the history
-  pub keeps : (h : History) (x : File) → (changes call && called (nameOf call) x) ≡ false → In noFile x (h .files)
+  pub keeps : (h : History) (x : File) → touches call (x .name) ≡ false → In noFile x (h .files)
       → In noFile x (moves h call .files)
   -- not refused, it leaves a file that it does not change by name as it was, and gives the other its dates
   pub dates : (h : History) (full : Bool) (x : File) → declines h full call ≡ 0 → In noFile x (moves h call .files)
-      → Dated call h x (changes call && called (nameOf call) x)
+      → Dated call h x (touches call (x .name))
 
 -- ---- calls that change nothing
 
 -- what the definitions say of every such call: image and history stay, a success has the number 0, and no refusal asks for room
 abbrev Unmoved : Type 0
-Unmoved = (List ℕ → List ℕ) × (History → History) × (List ℕ → ℕ) × (History → ℕ → ℕ) × (Known → Bool → ℕ) × Bool
+Unmoved = (List ℕ → List ℕ) × (History → History) × (List ℕ → ℕ) × (History → ℕ → ℕ) × (Known → Bool → ℕ) × (List ℕ → Bool)
 
 abbrev Reads : Call → Type 0
 Reads call =
@@ -88,9 +92,9 @@ Reads call =
       λ image. reply call image .number,
       λ h n. says h n call .number,
       λ k full. refuses call (withFull k full),
-      changes call,
+      touches call,
     )
-    (λ image. image, λ h. h, λ image. 0, λ h n. 0, λ k full. refuses call k, false)
+    (λ image. image, λ h. h, λ image. 0, λ h n. 0, λ k full. refuses call k, λ name. false)
 
 either-way : (t : Bool) (image : List ℕ) → cond t image image ≡ image
 either-way true image = refl
@@ -119,7 +123,7 @@ reads call d joins room told =
           record { bytes = rw l b; accepted = rw l acc; agrees = rw (l, keeps h) a; kept = rw l (stays call image) };
       keeps = λ h x n i. subst (λ (g : History). In noFile x (g .files)) (sym (keeps h)) i;
       dates = λ h full x z i.
-          let still : changes call ≡ false = ap (λ (t : Unmoved). t .5) d in
+          let still : touches call (x .name) ≡ false = ap (λ (t : Unmoved). t .5 (x .name)) d in
           rw still (λ n. subst (λ (g : History). In noFile x (g .files)) (keeps h) i, λ t. absurd (so-not false refl t));
     }
 
@@ -136,8 +140,8 @@ alters : (call : Call) → Alters call → Compared call
     → ((k : Known) → refuses call k ≡ refuses call (withFull k (eqb (refuses call k) 18)))
     → ((h : History) (full : Bool) → RoomRule h call (declines h full call))
     → ((image : List ℕ) (h : History) → Accepted image → Agrees image h → Bytes image → Fits call → refusal call image ≡ 0 → Done call image h)
-    → ((h : History) (x : File) → (changes call && called (nameOf call) x) ≡ false → In noFile x (h .files) → In noFile x (moves h call .files))
-    → ((h : History) (full : Bool) (x : File) → declines h full call ≡ 0 → In noFile x (moves h call .files) → Dated call h x (called (nameOf call) x))
+    → ((h : History) (x : File) → touches call (x .name) ≡ false → In noFile x (h .files) → In noFile x (moves h call .files))
+    → ((h : History) (full : Bool) (x : File) → declines h full call ≡ 0 → In noFile x (moves h call .files) → Dated call h x (touches call (x .name)))
     → Lawful call
 unfolding after only toldOnly
 alters call d first fed room done keeps dates =
@@ -156,7 +160,7 @@ alters call d first fed room done keeps dates =
       told = λ c image h acc a z. ap toldBy (number image) ∙ only-told 0 [] ∙ sym (say h (asked image call));
       done = done;
       keeps = keeps;
-      dates = λ h full x z i. rw changing (dates h full x z i);
+      dates = dates;
     }
 
 -- a write gives 17 exactly where it needs more new blocks than are free
@@ -253,6 +257,46 @@ deleted-dates name h x i =
     let s = from-keep noFile x (λ y. not (called name y)) (h .files) i in
     (λ n. s .0, λ t. absurd (so-not (called name x) (not-true _ (s .1)) t))
 
+-- the file that a rename gives a name and a date, its number and its date of creation being those that it had
+module _ (name new : List ℕ) (changed : ℕ) (h : History) (x : File) where
+  abbrev call : Call
+  call = rename name new changed
+
+  -- no other file has the new name
+  unshared : (full : Bool) → declines h full call ≡ 0 → any (called new) (keep (λ y. not (called name y)) (h .files)) ≡ false
+  unfolding declines refuses knownTo nameOf forkGiven
+  unshared full z =
+      let k = knownTo h full name Data in
+      let p = else-zero (tooLong new) 20 _ (else-zero (badName new) 11 _ (else-zero (badName name) 11 _ (else-zero (k .locked) 10 _ z .1) .1) .1) .1 in
+      else-zero (k .another new) 13 _ (else-zero (k .fileLocked) 14 _ (else-zero (not (k .exists)) 12 _ p .1) .1) .0
+
+  renamed-dates : (full : Bool) → declines h full call ≡ 0 → In noFile x (moves h call .files) → Dated call h x (touches call (x .name))
+  unfolding moves touches datesGiven onCalled called retitledFile
+  renamed-dates full z i =
+      let s = from-map noFile x (onCalled name (retitledFile new changed)) (h .files) i in
+      go (s .0) (s .1) (called name (s .0)) refl (s .2)
+    where
+      go : (y : File) → In noFile y (h .files) → (b : Bool) → called name y ≡ b → cond b (retitledFile new changed y) y ≡ x
+          → Dated call h x (sameName name (x .name) || sameName new (x .name))
+      go y j true c e =
+          let title : x .name ≡ new = sym (ap (λ (v : File). v .name) e) in
+          let its : (sameName name (x .name) || sameName new (x .name)) ≡ true =
+          rw (title, same-name-refl new) (or-true (sameName name new)) in (
+            λ n. absurd (so-not _ n its),
+            λ t. (
+              title,
+              sym (ap (λ (v : File). v .changed) e),
+              (y, j, c, ap (λ (v : File). v .number) e, ap (λ (v : File). v .created) e),
+            ),
+          )
+      go y j false c e =
+          let k : In noFile x (h .files) = subst (λ (v : File). In noFile v (h .files)) e j in
+          let out : called name x ≡ false = subst (λ (v : File). called name v ≡ false) e c in
+          let u = in-keep noFile x (λ v. not (called name v)) (rw out) (h .files) k in
+          let there = any-at (called new) noFile (keep (λ v. not (called name v)) (h .files)) (unshared full z) (u .0) (u .1) in
+          let other : called new x ≡ false = subst (λ (v : File). called new v ≡ false) (u .2) there in
+          (λ n. k, λ t. absurd (so-not (sameName name (x .name) || sameName new (x .name)) (rw (out, other)) t))
+
 -- ---- the calls
 
 -- a call none of whose tests gives 17
@@ -262,10 +306,11 @@ never call n h full = n (knownTo h full (nameOf call) (forkGiven call))
 
 -- wrap gives 22 or 0 on an accepted image
 wrap-aside : (name : List ℕ) (format : ℕ) (buffer : List ℕ) → Aside (wrap name format buffer)
-unfolding compared changes moves RoomRule refusal checks refuses
+unfolding compared changes touches moves RoomRule refusal checks refuses
 wrap-aside name format buffer = record {
   uncompared = refl;
   unchanging = refl;
+  untouching = λ n. refl;
   stays = λ h. refl;
   room = λ image h acc e.
       let t = badLengths (length image) (length buffer) (length name) in
@@ -275,7 +320,7 @@ wrap-aside name format buffer = record {
 }
 
 pub lawful : (call : Call) → Lawful call
-unfolding checks change moves reply says compared changes datesGiven refuses withFull RoomRule nameOf toldBy only toldOnly
+unfolding checks change moves reply says compared changes touches called datesGiven refuses withFull RoomRule toldBy only toldOnly
     tellsFacts tellsEntry tellsBlock tellsBytes
 lawful check = reads check refl (inl (record { asked = refl; first = λ i. refl })) (never check (λ k. no-check)) (λ c. check-says)
 lawful (entry place) =
@@ -320,3 +365,9 @@ lawful (wrap name format buffer) =
     reads (wrap name format buffer) refl (inr (wrap-aside name format buffer))
     (never (wrap name format buffer) (λ k. no-check))
     (λ c. absurd (so-not false refl c))
+lawful (rename name new changed) =
+    alters (rename name new changed) refl (record { asked = refl; first = λ i. refl }) (rename-fed name new changed)
+    (never (rename name new changed) (rename-never name new changed))
+    (rename-done name new changed)
+    (λ h x n i. in-map noFile x _ (not-called name _ x (or-false (sameName name (x .name)) (sameName new (x .name)) n .0)) (h .files) i)
+    (λ h full x. renamed-dates name new changed h x full)

@@ -5,6 +5,7 @@ pub mod Rewrites
 pub mod Writes
 pub mod Cuts
 pub mod Deletes
+pub mod Renames
 pub mod Creates
 pub mod Lawful
 pub mod Run

@@ -8,8 +8,8 @@ use native.Mathlib.Decide.{ℕ-discrete}
 use lib.Dec.{eqb, eqb·suc-zero}
 use borrow.Author.Tests.{eqb-true, eq-eqb, ne-eqb}
 use Rattle.model.specs.Check.{verdict, Accepted}
-use Rattle.model.specs.Calls.{Call, nameOf, forkGiven, Known, checks, refuses, knownIn, refusal, change, only, reply, lent, answer, Does}
-use Rattle.history.specs.History.{History, knownTo, declines, moves, step, says, tells, toldBy, toldOnly, asked, compared, Agrees, reading}
+use Rattle.model.specs.Calls.{Call, nameOf, forkGiven, checks, refuses, knownIn, refusal, change, only, reply, lent, answer, Does}
+use Rattle.history.specs.History.{History, declines, moves, step, says, tells, toldBy, toldOnly, asked, compared, Agrees, reading}
 use Rattle.history.specs.History.{Told, Event, Run, is18, RoomRule, InStep, Holds, EveryRun}
 use Rattle.model.proofs.Lists.{so-not}
 use Rattle.laws.proofs.Refusals.{own-is, refused, done, withFull}
@@ -35,13 +35,13 @@ either-way false h = refl
 module _ (image : List ℕ) (h : History) (acc : Accepted image) (a : Agrees image h) (call : Call) where
   -- the refusal, where the call checks 1 to 10 first
   same-refusal : Compared call → refusal call image ≡ declines h (eqb (refusal call image) 18) call
-  unfolding declines knownTo withFull
+  unfolding declines
   same-refusal c =
       let k = knownIn image (nameOf call) (forkGiven call) in
       own-is image acc call (c .first image)
       ∙ lawful call .fed k
       ∙ ap (λ (n : ℕ). refuses call (withFull k (eqb n 18))) (sym (own-is image acc call (c .first image)))
-      ∙ ap (λ (k : Known). refuses call (withFull k (eqb (refusal call image) 18))) (sym (known-same image h acc a (nameOf call) (forkGiven call)))
+      ∙ ap (refuses call) (sym (known-same image h acc a (eqb (refusal call image) 18) (nameOf call) (forkGiven call)))
 
   -- the history's step
   step-refused : (refusal call image ≡ 0 → ⊥) → step h (eqb (refusal call image) 18) call ≡ h

@@ -6,18 +6,18 @@ use mathlib.Core.List.{List}
 use mathlib.Core.Logic.{_↔_}
 use lib.Dec.{eqb}
 use Rattle.model.specs.Check.{Accepted}
-use Rattle.model.specs.Calls.{Call, Answer, nameOf, Does}
-use Rattle.history.specs.History.{File, called, changes, datesGiven}
+use Rattle.model.specs.Calls.{Call, Answer, Does}
+use Rattle.history.specs.History.{File, touches, datesGiven}
 use Rattle.history.specs.Among.{HasFile}
 
 -- the call was not refused, and changes the file of this name
-unfoldable pub touches : Call → Answer → File → Bool
-touches call given x = eqb (given .number) 0 && (changes call && called (nameOf call) x)
+unfoldable pub touched : Call → Answer → File → Bool
+touched call given x = eqb (given .number) 0 && touches call (x .name)
 
 -- The files that a call does not touch are the same after it as before, dates and all; a file that it touched and left has the
 -- dates that the call was given.
 unfoldable pub Dates : Type 0
 Dates =
     (image left : List ℕ) (call : Call) (given : Answer) (x : File) → Accepted image → Does call image given left
-    → (touches call given x ≡ false → (HasFile left x ↔ HasFile image x))
-    × (touches call given x ≡ true → HasFile left x → datesGiven call (HasFile image) x)
+    → (touched call given x ≡ false → (HasFile left x ↔ HasFile image x))
+    × (touched call given x ≡ true → HasFile left x → datesGiven call (HasFile image) x)

@@ -2,7 +2,7 @@
 -- what must hold after each event of a run; and the claim on every run.
 use Prim.Native.Nat.{ℕ, zero, suc, _+_, _-_, _*_, _/_, _%_, _≤_, _<_, max}
 use mathlib.Core.Path.{_≡_}
-use mathlib.Core.Bool.{Bool, true, false, _&&_, not, cond}
+use mathlib.Core.Bool.{Bool, true, false, _&&_, _||_, not, cond}
 use mathlib.Core.List.{List, [], _∷_, _++_, map}
 use mathlib.Core.Logic.{_↔_}
 use lib.ListN.{length, getD, take, drop}
@@ -14,7 +14,7 @@ use Rattle.model.specs.Map.{mapEntry}
 use Rattle.model.specs.Directory.{directory, numberIn, nameIn, finderIn, forkOf, wide, noEntry, flagsLock, blockCount, forkBlocks, sameName}
 use Rattle.model.specs.Check.{Accepted}
 use Rattle.model.specs.Calls.{Call, Known, fewest, badName, refuses, nameOf, forkGiven, entryNamed, forkBytes, readCount, copied, Answer, lent, Does}
-use Rattle.model.specs.Calls.Call.{check, entry, find, block, read, create, write, cut, delete, wrap}
+use Rattle.model.specs.Calls.Call.{check, entry, find, block, read, create, write, cut, delete, wrap, rename}
 use Rattle.model.specs.declared.LogicalBlock.{LogicalBlock}
 use Rattle.model.specs.declared.VolumeFacts.{VolumeFacts}
 use Rattle.model.specs.declared.DirectoryEntry.{DirectoryEntry}
@@ -91,6 +91,8 @@ knownTo h full name fork =
       free = freeOf h;
       next = nextNumber (h .facts);
       full = full;
+      another = λ new. any (called new) (keep (λ x. not (called name x)) (h .files));
+      crowded = λ new. full;
     }
 
 unfoldable pub declines : History → Bool → Call → ℕ
@@ -142,6 +144,19 @@ changedFork fork f date x = record {
   changed = date;
   content = ofData fork f (x .content);
   resource = ofResource fork f (x .resource);
+}
+
+-- A rename is one step (document 02, T-05): the name and the change date of that file.
+unfoldable pub retitledFile : List ℕ → ℕ → File → File
+retitledFile new changed x = record {
+  number = x .number;
+  name = new;
+  flags = x .flags;
+  finder = x .finder;
+  created = x .created;
+  changed = changed;
+  content = x .content;
+  resource = x .resource;
 }
 
 unfoldable pub onCalled : List ℕ → (File → File) → File → File
@@ -244,7 +259,9 @@ pub record Following : Type 1 where
   pub directories : ℕ
   -- when its number is 17
   pub room : History → ℕ → Type 0
-  -- for the auditor: the dates that it gives to the file of its name; `was` says which files were there before
+  -- for the auditor: whether it may change the file of a name, and the dates that it gives to a file that it touched; `was` says which
+  -- files were there before
+  pub touches : List ℕ → Bool
   pub dates : (File → Type 0) → File → Type 0
 
 -- the blocks that an image gives to the named fork
@@ -254,6 +271,10 @@ blocksNamed image name fork = forkBlocks (mapEntry image) (A (factsOf image)) (f
 -- no call but a write gets 17
 abbrev never17 : History → ℕ → Type 0
 never17 h number = number ≡ 17 → ⊥
+
+-- no file is changed
+abbrev nothing : List ℕ → Bool
+nothing name = false
 
 -- no file gets a date
 abbrev noDates : (File → Type 0) → File → Type 0
@@ -270,6 +291,7 @@ reads says asked = record {
   blocks = λ image. [];
   directories = 0;
   room = never17;
+  touches = nothing;
   dates = noDates;
 }
 
@@ -284,12 +306,13 @@ stands = record {
   blocks = λ image. [];
   directories = 0;
   room = never17;
+  touches = nothing;
   dates = noDates;
 }
 
--- the calls that change the image tell their number alone, and one directory block may differ
-abbrev alters : (History → History) → (List ℕ → List ℕ) → (History → ℕ → Type 0) → ((File → Type 0) → File → Type 0) → Following
-alters moves blocks room dates = record {
+-- create, write, cut and delete tell their number alone; one directory block may differ, and they change the file of their name
+abbrev alters : List ℕ → (History → History) → (List ℕ → List ℕ) → (History → ℕ → Type 0) → ((File → Type 0) → File → Type 0) → Following
+alters name moves blocks room dates = record {
   moves = moves;
   says = λ h n. toldOnly 0 [];
   asked = λ image. 0;
@@ -298,6 +321,7 @@ alters moves blocks room dates = record {
   blocks = blocks;
   directories = 1;
   room = room;
+  touches = sameName name;
   dates = dates;
 }
 
@@ -336,7 +360,7 @@ following (find name) = reads (λ h n. toldFile h (fileCalled name h)) noPlace
 following (block name fork place) = reads (λ h n. toldOnly 0 []) noPlace
 following (read name fork offset buffer) = reads (λ h n. toldBytes (heldOf fork (fileCalled name h) .bytes) offset buffer) noPlace
 -- Create adds a file; the next number goes up by one.
-following (create name finder created changed) = alters
+following (create name finder created changed) = alters name
     (λ h. record {
       facts = withCounts (h .facts) (h .facts .files) (nextNumber (h .facts) + 1) (freeCount (h .facts));
       files = h .files ++ (newFile (nextNumber (h .facts)) name finder created changed ∷ []);
@@ -345,29 +369,48 @@ following (create name finder created changed) = alters
     never17
     (λ was x. (x .created ≡ created) × (x .changed ≡ changed))
 -- A write that passes the checks before 17 gets 17 exactly when it needs more new blocks than are free.
-following (write name fork offset bytes changed) = alters
+following (write name fork offset bytes changed) = alters name
     (λ h. record { facts = h .facts; files = map (onCalled name (changedFork fork (writes (A (h .facts)) offset bytes) changed)) (h .files) })
     (λ image. blocksNamed image name fork)
     (λ h number. (number ≡ 17) ↔ NoRoom h name fork offset bytes)
     (dateChanged changed)
-following (cut name fork size changed) = alters
+following (cut name fork size changed) = alters name
     (λ h. record { facts = h .facts; files = map (onCalled name (changedFork fork (cuts (A (h .facts)) size) changed)) (h .files) })
     (λ image. blocksNamed image name fork)
     never17
     (dateChanged changed)
 -- Delete drops the file.
-following (delete name) = alters
+following (delete name) = alters name
     (λ h. record { facts = h .facts; files = keep (λ x. not (called name x)) (h .files) })
     (λ image. blocksNamed image name Data ++ blocksNamed image name Resource)
     never17
     noDates
 -- Wrap leaves the image; a call that is added later joins the list with the step its request gives it, or as one like this.
 following (wrap name format buffer) = stands
+-- A rename names two names, and two directory blocks may differ. The file has the new name and the date of change as given, and the
+-- number and date of creation that it had under its old name.
+following (rename name new changed) = record {
+  moves = λ h. record { facts = h .facts; files = map (onCalled name (retitledFile new changed)) (h .files) };
+  says = λ h n. toldOnly 0 [];
+  asked = noPlace;
+  compared = true;
+  changes = true;
+  blocks = λ image. [];
+  directories = 2;
+  room = never17;
+  touches = λ n. sameName name n || sameName new n;
+  dates = λ was x. (x .name ≡ new) × (x .changed ≡ changed)
+      × ((y : File) × was y × (called name y ≡ true) × (y .number ≡ x .number) × (y .created ≡ x .created));
+}
 
 -- ---- The history after a call, and what it tells of it
 
 unfoldable pub moves : History → Call → History
 moves h call = following call .moves h
+
+-- whether it may change the file of this name
+unfoldable pub touches : Call → List ℕ → Bool
+touches call = following call .touches
 
 unfoldable pub datesGiven : Call → (File → Type 0) → File → Type 0
 datesGiven call = following call .dates

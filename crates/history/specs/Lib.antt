@@ -2,6 +2,7 @@ pub mod History
 pub mod Among
 pub mod Untouched
 pub mod Deleting
+pub mod Renaming
 pub mod Dates
 pub mod Room
 pub mod InPieces

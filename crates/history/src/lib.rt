@@ -5,6 +5,7 @@ ghost use Rattle.history.specs.EveryList.{EveryList};
 ghost use Rattle.history.specs.History.{EveryRun};
 ghost use Rattle.history.specs.InPieces.{InPieces};
 ghost use Rattle.history.specs.ReadBack.{ReadBack};
+ghost use Rattle.history.specs.Renaming.{Renaming};
 ghost use Rattle.history.specs.Room.{Room};
 ghost use Rattle.history.specs.Untouched.{Untouched};
 ghost use Rattle.history.specs.WrappedRuns.{EveryWrappedList, WrappedRuns};
@@ -32,6 +33,11 @@ pub fn dates()
 // Deleting one file changes no byte and no date of another.
 pub fn deleting()
     ensures { λ _. ⌜ Deleting ⌝ }
+{}
+
+// A rename gives one file a name and a date of change, and leaves all else of every file.
+pub fn renaming()
+    ensures { λ _. ⌜ Renaming ⌝ }
 {}
 
 // "Disk full" is said only where a write needs more new blocks than are free, and no block is hidden: free blocks and the files'

@@ -16,6 +16,7 @@ use Rattle.model.specs.declared.Fork.{Fork}
 use Rattle.laws.proofs.Content.{same-byte}
 use Rattle.laws.proofs.Alike.{Alike, alike-sets, alike-paste, alike-trans}
 use Rattle.laws.proofs.MapSteps.{Framed}
+use Rattle.laws.proofs.Block.{keeps-sized}
 use Rattle.laws.proofs.Entry.{fork-keeps}
 use Rattle.laws.proofs.Blocks.{Whole, whole-length, clean-whole, rewritten-stays}
 use Rattle.laws.proofs.Image.{blocks-count}
@@ -65,7 +66,7 @@ module _ (image : List ℕ) (acc : Accepted image) (name : List ℕ) (fork : For
       let f = factsOf image in
       let r = readable-of image acc in
       let st = rewritten-stays name (withFork fork (A f) logical bs changed) (directoryBlocks f image)
-      (fork-keeps fork (A f) logical bs changed) (clean-now image r) in
+      (keeps-sized name (withFork fork (A f) logical bs changed) (fork-keeps fork (A f) logical bs changed)) (clean-now image r) in
       alike-trans (S f) (withFree free (withDirectory f base newBlocks)) (withDirectory f base newBlocks) base
       (alike-free image acc free (withDirectory f base newBlocks))
       (alike-directory image acc base newBlocks l (clean-whole newBlocks (st .clean)) (st .count ∙ blocks-count f image (r .within)))

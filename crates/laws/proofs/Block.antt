@@ -16,7 +16,7 @@ use Rattle.model.specs.Directory.{padded, entrySize, inUse, endsAt, nextPlace, 
 use Rattle.model.specs.Check.{goodEntry}
 use Rattle.model.specs.Calls.{hasRoom, filled, removedIn, onNamed, rewrittenIn}
 use Rattle.model.proofs.Lists.{and-true, every-append, flat-append, keep-every, keep-all}
-use Rattle.laws.proofs.Reorder.{every-weaker, every-both, every-map}
+use Rattle.laws.proofs.Reorder.{every-weaker, every-both}
 
 pub size-low : (e : List ℕ) → 52 ≤ entrySize e
 unfolding entrySize padded
@@ -306,19 +306,41 @@ keeps-named name g k = record {
   name = on-alike name g nameIn (k .name);
 }
 
-map-length : (g : List ℕ → List ℕ) → Keeps g → (es : List (List ℕ)) → length (flat (map g es)) ≡ length (flat es)
-unfolding flat
-map-length g k [] = refl
-map-length g k (e ∷ es) = simp (length-append, map-length g k es, k .size e)
+-- and, for rename too, one that keeps the sizes and the soundness of the entries of a name
+abbrev pub Sized : List ℕ → (List ℕ → List ℕ) → Type 0
+Sized name g = (e : List ℕ) → named name e ≡ true → sound e ≡ true → (sound (g e) ≡ true) × (length (g e) ≡ length e)
 
-pub rewritten-reads : (name : List ℕ) (g : List ℕ → List ℕ) (b : List ℕ) → Keeps g → Clean b → Reads (rewrittenIn name g b) (map (onNamed name g) (entries b))
+pub keeps-sized : (name : List ℕ) (g : List ℕ → List ℕ) → Keeps g → Sized name g
+keeps-sized name g k e n s = (rw (k .used e, k .good e) s, k .size e)
+
+sized-on : (name : List ℕ) (g : List ℕ → List ℕ) → Sized name g → (e : List ℕ) → sound e ≡ true
+    → (sound (onNamed name g e) ≡ true) × (length (onNamed name g e) ≡ length e)
+unfolding onNamed
+sized-on name g k e s = go (named name e) refl
+  where
+    go : (t : Bool) → named name e ≡ t → (sound (cond t (g e) e) ≡ true) × (length (cond t (g e) e) ≡ length e)
+    go true n = k e n s
+    go false n = (s, refl)
+
+map-sized : (name : List ℕ) (g : List ℕ → List ℕ) → Sized name g → (es : List (List ℕ)) → every sound es ≡ true
+    → (every sound (map (onNamed name g) es) ≡ true) × (length (flat (map (onNamed name g) es)) ≡ length (flat es))
+unfolding flat every
+map-sized name g k [] s = (refl, refl)
+map-sized name g k (e ∷ es) s =
+    let p = and-true (sound e) (every sound es) s in
+    let h = sized-on name g k e (p .0) in
+    let r = map-sized name g k es (p .1) in
+    (rw (h .0) (r .0), simp (length-append, r .1, h .1))
+
+pub rewritten-reads : (name : List ℕ) (g : List ℕ → List ℕ) (b : List ℕ) → Sized name g → Clean b
+    → Reads (rewrittenIn name g b) (map (onNamed name g) (entries b))
 unfolding rewrittenIn readEnd
 rewritten-reads name g b k c =
     let f = onNamed name g in
-    let j = keeps-named name g k in
     let d = split b c in
-    let s = every-map sound sound f (λ e. rw (j .used e, j .good e)) (entries b) ∙ d .sounds in
+    let j = map-sized name g k (entries b) (d .sounds) in
+    let s = j .0 in
     let w = used-within b c in
-    let l = map-length f j (entries b) in
+    let l = j .1 in
     let n : length (flat (map f (entries b)) ++ rest b) ≡ 512 = simp length-append (omega arith) in
     reads-as (flat (map f (entries b)) ++ rest b) (map f (entries b)) n s (read-block (map f (entries b)) (rest b) s (d .ends) (omega arith))

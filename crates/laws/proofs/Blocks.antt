@@ -13,7 +13,7 @@ use Rattle.model.specs.Check.{goodEntry}
 use Rattle.model.specs.Calls.{filled, hasRoom, placed, removed, onNamed, rewritten}
 use Rattle.model.proofs.Lists.{and-true, every-append, flat-append, keep-append, middle}
 use Rattle.laws.proofs.Stores.{drop-take-add}
-use Rattle.laws.proofs.Block.{sound, Clean, added-reads, removed-reads, Keeps, rewritten-reads}
+use Rattle.laws.proofs.Block.{sound, Clean, split, added-reads, removed-reads, Sized, rewritten-reads}
 
 -- ---- blocks of 512 bytes
 
@@ -93,6 +93,11 @@ unfolding Cleans listing flat every
 clean-listing [] c = refl
 clean-listing (b ∷ bs) c = rw (every-append, c .0 .good, clean-listing bs (c .1))
 
+pub clean-sounds : (bs : List (List ℕ)) → Cleans bs → every sound (listing bs) ≡ true
+unfolding Cleans listing flat every
+clean-sounds [] c = refl
+clean-sounds (b ∷ bs) c = rw (every-append, split b (c .0) .sounds, clean-sounds bs (c .1))
+
 pub clean-parts : (x y : List (List ℕ)) → Cleans (x ++ y) → Cleans x × Cleans y
 unfolding Cleans
 clean-parts [] y w = (tt, w)
@@ -169,15 +174,15 @@ removed-listing name (b ∷ bs) c =
     rw (removed-reads name b (c .0) .reads, keep-append)
     (ap (λ (r : List (List ℕ)). keep (λ e. not (named name e)) (entries b) ++ r) (removed-listing name bs (c .1)))
 
--- write and cut
-pub rewritten-stays : (name : List ℕ) (g : List ℕ → List ℕ) (bs : List (List ℕ)) → Keeps g → Cleans bs → Stays bs (rewritten name g bs)
+-- write, cut, and a rename that stays
+pub rewritten-stays : (name : List ℕ) (g : List ℕ → List ℕ) (bs : List (List ℕ)) → Sized name g → Cleans bs → Stays bs (rewritten name g bs)
 unfolding Cleans rewritten
 rewritten-stays name g [] k c = record { clean = tt; count = refl }
 rewritten-stays name g (b ∷ bs) k c =
     let i = rewritten-stays name g bs k (c .1) in
     record { clean = (rewritten-reads name g b k (c .0) .clean, i .clean); count = ap suc (i .count) }
 
-pub rewritten-listing : (name : List ℕ) (g : List ℕ → List ℕ) (bs : List (List ℕ)) → Keeps g → Cleans bs
+pub rewritten-listing : (name : List ℕ) (g : List ℕ → List ℕ) (bs : List (List ℕ)) → Sized name g → Cleans bs
     → listing (rewritten name g bs) ≡ map (onNamed name g) (listing bs)
 unfolding Cleans rewritten listing flat
 rewritten-listing name g [] k c = refl

@@ -8,17 +8,17 @@ use native.Mathlib.Decide.{ℕ-discrete}
 use native.Mathlib.Nat.{mul-le-mul-right}
 use lib.ListN.{length, getD, take, drop, length-append, length-take, length-drop}
 use lib.Seq.{sets}
-use Rattle.model.specs.Lists.{any, keep, placeOf, flat, firstOr0, times}
+use Rattle.model.specs.Lists.{any, keep, first, placeOf, flat, firstOr0, times}
 use Rattle.model.specs.Bytes.{bytes16, bytes32, zeros, part, Bytes}
 use Rattle.model.specs.Facts.{factsOf, factsIn, dirStart, dirLength, N, A, S, nextNumber, freeCount}
 use Rattle.model.specs.Map.{mapEntry, freeBlocks, putChain, putFree}
 use Rattle.model.specs.Directory.{entrySize, endsAt, nextPlace, readAt, entries, readEnd, cutBlocks, directoryBlocks, listing, directory}
 use Rattle.model.specs.Directory.{forkPlace, forkOf, forksIn, blockCount, forkBlocks, named}
 use Rattle.model.specs.Check.{SoundFork, Accepted}
-use Rattle.model.specs.Calls.{fewest, grown, needed, entryNamed, hasRoom, putContent, filled, newEntry, placed, removedIn, removed}
+use Rattle.model.specs.Calls.{fewest, grown, needed, entryNamed, hasRoom, putContent, filled, dateAndName, newEntry, placed, removedIn, removed}
 use Rattle.model.specs.Calls.{onNamed, rewrittenIn, rewritten, withFork, withDirectory, withFiles, withNext, withFree}
-use Rattle.model.specs.Calls.{created, written, shortened, deleted, change, Fits}
-use Rattle.model.specs.Calls.Call.{create, write, cut, delete}
+use Rattle.model.specs.Calls.{created, written, shortened, deleted, sameSize, retitled, renamedIn, renamed, change, Fits}
+use Rattle.model.specs.Calls.Call.{create, write, cut, delete, rename}
 use Rattle.model.specs.declared.VolumeFacts.{VolumeFacts}
 use Rattle.model.specs.declared.Fork.{Fork}
 use Rattle.model.specs.declared.Fork.the-variants.{Data, Resource}
@@ -35,7 +35,7 @@ use Rattle.laws.proofs.Octets.{octets-u16, octets-u32, bytes-be32}
 use Rattle.laws.proofs.Octets.{bytes-putChain, bytes-putFree, bytes-putContent, bytes-paste, bytes-sets, octets-sets}
 use Rattle.laws.proofs.Blocks.{cut-count}
 use Rattle.laws.proofs.Reorder.{first-found}
-use Rattle.laws.proofs.Refusals.{MayCreate, MayChangeFile, MayWrite, MayCut}
+use Rattle.laws.proofs.Refusals.{MayCreate, MayChangeFile, MayWrite, MayCut, MayRename}
 use Rattle.laws.proofs.Acceptance.{sound-fork, map-passes}
 
 -- ---- what holds of each element
@@ -57,6 +57,15 @@ each-kept P p (x ∷ l) h = go (p x) (each-kept P p l (h .1))
   where
     go : (t : Bool) → Each P (keep p l) → Each P (cond t (x ∷ keep p l) (keep p l))
     go true r = (h .0, r)
+    go false r = r
+
+each-first : {X : Type 0} (P : X → Type 0) (p : X → Bool) (d : X) (l : List X) → P d → Each P l → P (first p d l)
+unfolding Each first
+each-first P p d [] z h = z
+each-first P p d (x ∷ l) z h = go (p x) (each-first P p d l z (h .1))
+  where
+    go : (t : Bool) → P (first p d l) → P (cond t x (first p d l))
+    go true r = h .0
     go false r = r
 
 -- ---- the directory's blocks
@@ -109,13 +118,17 @@ octets-placed e o (b ∷ bs) h = go (hasRoom (length e) b) (octets-placed e o bs
     go true r = (octets-filled (entries b ++ (e ∷ [])) (each-append Octets (entries b) (e ∷ []) (octets-entries b (h .0)) (o, tt)), h .1)
     go false r = (h .0, r)
 
+octets-title : (changed : ℕ) (name : List ℕ) → changed < 4294967296 → Octets name → length name < 256 → Octets (dateAndName changed name)
+octets-title changed name c o l =
+    let pad = (51 + length name) % 2 in
+    octets-append (bytes32 changed) _ (octets-u32 changed c)
+    (octets-cons (length name) (name ++ zeros pad) l (octets-append name (zeros pad) o (octets-zeros pad)))
+
 octets-new : (number : ℕ) (name finder : List ℕ) (made changed : ℕ) → number < 4294967296 → Octets name → Octets finder → made < 4294967296
     → changed < 4294967296 → length name < 256 → Octets (newEntry number name finder made changed)
 unfolding newEntry
 octets-new number name finder made changed n o f m c l =
-    let pad = (51 + length name) % 2 in
-    let title = octets-cons (length name) (name ++ zeros pad) l (octets-append name (zeros pad) o (octets-zeros pad)) in
-    let dates = octets-append (bytes32 made) _ (octets-u32 made m) (octets-append (bytes32 changed) _ (octets-u32 changed c) title) in
+    let dates = octets-append (bytes32 made) _ (octets-u32 made m) (octets-title changed name c o l) in
     let fields = octets-append (bytes32 number) _ (octets-u32 number n) (octets-append (zeros 20) _ (octets-zeros 20) dates) in
     octets-cons 0x80 _ (omega arith) (octets-cons 0 _ (omega arith) (octets-append finder _ f fields))
 
@@ -153,6 +166,24 @@ octets-fork fork a logical bs changed s l p c e o =
     (octets-append (bytes32 logical) (bytes32 (length bs * a)) (octets-u32 logical l) (octets-u32 (length bs * a) p)) in
     octets-sets (sets e (forkPlace fork) (bytes16 (firstOr0 bs) ++ (bytes32 logical ++ bytes32 (length bs * a)))) 46 (bytes32 changed)
     (octets-sets e (forkPlace fork) (bytes16 (firstOr0 bs) ++ (bytes32 logical ++ bytes32 (length bs * a))) o fields) (octets-u32 changed c)
+
+-- rename
+octets-retitled : (new : List ℕ) (changed : ℕ) → changed < 4294967296 → Octets new → length new < 256 → (e : List ℕ) → Octets e
+    → Octets (retitled new changed e)
+unfolding retitled
+octets-retitled new changed c o l e h = octets-append (take 46 e) _ (octets-take 46 e h) (octets-title changed new c o l)
+
+octets-renamed : (name new : List ℕ) (changed : ℕ) → changed < 4294967296 → Octets new → length new < 256 → (e : List ℕ) → Octets e → (bs : List (List ℕ))
+    → AllOctets bs → AllOctets (renamedIn name new changed e bs)
+unfolding renamedIn
+octets-renamed name new changed c o l e h bs k = go (sameSize name new)
+  where
+    go : (t : Bool) → AllOctets (elim t as (λ _. List (List ℕ)) [
+      | true ↦ rewritten name (retitled new changed) bs
+      | false ↦ placed (retitled new changed e) (removed name bs)
+    ])
+    go true = octets-rewritten name (retitled new changed) (octets-retitled new changed c o l) bs k
+    go false = octets-placed (retitled new changed e) (octets-retitled new changed c o l e h) (removed name bs) (octets-removed name bs k)
 
 -- ---- the image with other directory blocks, and other counts
 
@@ -361,3 +392,15 @@ deleted-bytes image acc h name fits may =
     (files-kept (f .files - 1) (withDirectory f (putFree image freed) bs) (omega (arith, files-few image acc))
     (directory-kept f (putFree image freed) bs (bytes-putFree image freed h)
     (octets-removed name (directoryBlocks f image) (octets-directory f image (octets image h)))))
+
+pub renamed-bytes : (image : List ℕ) → Bytes image → (name new : List ℕ) (changed : ℕ) → Fits (rename name new changed) → MayRename image name new
+    → Bytes (change (rename name new changed) image)
+unfolding change renamed Fits entryNamed directory listing
+renamed-bytes image h name new changed fits may =
+    let f = factsOf image in
+    let bs = directoryBlocks f image in
+    let o = octets-directory f image (octets image h) in
+    let all : AllOctets (flat (map entries bs)) = each-flat Octets (map entries bs) (each-map Octets AllOctets entries octets-entries bs o) in
+    directory-kept f image (renamedIn name new changed (entryNamed name image) bs) h
+    (octets-renamed name new changed (fits .2) (octets new (fits .1)) (omega (arith, may .title .short)) (entryNamed name image)
+    (each-first Octets (named name) [] (flat (map entries bs)) (octets-zeros 0) all) bs o)

@@ -23,7 +23,7 @@ use Rattle.model.specs.declared.Fork.the-variants.{Data, Resource}
 use Rattle.model.proofs.Lists.{and-true}
 use Rattle.model.proofs.Check.{PassesAll, sound-facts}
 use Rattle.laws.proofs.Reorder.{Alone}
-use Rattle.laws.proofs.Block.{sound, Keeps}
+use Rattle.laws.proofs.Block.{sound, Keeps, keeps-sized}
 use Rattle.laws.proofs.Entry.{new-length, new-sound, new-number, new-name, fork-keeps}
 use Rattle.laws.proofs.Blocks.{Cleans, clean-whole, Stays, Inserted, inserted-reordered, placed-stays, placed-inserted, removed-stays, removed-listing}
 use Rattle.laws.proofs.Blocks.{rewritten-stays, rewritten-listing}
@@ -174,11 +174,12 @@ module _ (image : List ℕ) (r : ReadableDirectory image) where
     unfolding directory
     rewrite-step g k =
         let bs = rewritten name g blocks in
-        let s = rewritten-stays name g blocks k clean-now in
-        let o = rewritten-one name blocks clean-now names-now h g k in
+        let z = keeps-sized name g k in
+        let s = rewritten-stays name g blocks z clean-now in
+        let o = rewritten-one name blocks clean-now names-now h g z in
         stepped base b bs s o (map (onNamed name g) (directory image)) (f .files) (nextNumber f) free (withFree free (withDirectory f base bs))
         (rewrite-changed f base (r .behind) (within-base base b bs s o) bs (b .facts) (clean-whole bs (s .clean)) (as-many base b bs s o) free)
-        (rewritten-listing name g blocks k clean-now)
+        (rewritten-listing name g blocks z clean-now)
         (change-checks (f .files) (nextNumber f) (directory image) (r .pass6) (r .pass7) name g k)
         (λ i i₁ i₂ i₃. free-half free (withDirectory f base bs) i i₃)
 

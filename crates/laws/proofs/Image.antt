@@ -1,7 +1,7 @@
 -- Laws of an image's directory and facts: what an image with other directory blocks or other counts reads as, and which of its
 -- bytes stay.
 use Prim.Native.Nat.{ℕ, suc, _+_, _-_, _*_, _≤_, _<_}
-use mathlib.Core.Path.{_≡_, refl, sym, ap, _∙_}
+use mathlib.Core.Path.{_≡_, refl, sym, ap, ap₂, _∙_}
 use mathlib.Core.Bool.{true}
 use mathlib.Core.List.{List, _∷_, _++_, append-assoc}
 use native.Mathlib.Omega.{arith}
@@ -18,8 +18,8 @@ use Rattle.model.specs.Calls.{withDirectory, withFiles, withNext, withFree}
 use Rattle.model.specs.Bytes.{Within}
 use Rattle.model.specs.declared.VolumeFacts.{VolumeFacts}
 use Rattle.model.proofs.Lists.{flat-append}
-use Rattle.laws.proofs.Stores.{sets-before, sets-behind, drop-sets, paste-before, paste-behind, be16-same, be32-same, part-same, be16-drop, be32-drop}
-use Rattle.laws.proofs.Stores.{be16-sets, be32-sets, half-sets-before, half-sets-behind, half-paste-before, half-paste-behind}
+use Rattle.laws.proofs.Stores.{sets-before, sets-behind, drop-sets, take-paste-front, paste-before, paste-behind, be16-same, be32-same, part-same}
+use Rattle.laws.proofs.Stores.{be16-drop, be32-drop, be16-sets, be32-sets, half-sets-before, half-sets-behind, half-paste-before, half-paste-behind}
 use Rattle.laws.proofs.Blocks.{Whole, cut-whole, cut-count, cut-front, cut-flat, flat-cut, whole-length, whole-append, whole-parts, Cleans, whole-clean}
 use Rattle.laws.proofs.Places.{OneBlock, sets-inside}
 
@@ -254,6 +254,16 @@ module _ (f : VolumeFacts) (image : List ℕ) (within : 512 * dirStart f .0 + 51
         (drop-paste image (512 * dirStart f .0) (flat bs) (512 * dirLength f) (omega arith) (omega (arith, full)))
         ∙ drop-drop (m - (512 * dirStart f .0 + 512 * dirLength f)) (512 * dirStart f .0 + 512 * dirLength f) image
         ∙ ap (λ (k : ℕ). drop k image) p
+
+    -- other directory blocks stored over these
+    pub with-twice : (cs : List (List ℕ)) → withDirectory f (withDirectory f image bs) cs ≡ withDirectory f image cs
+    unfolding withDirectory
+    with-twice cs =
+        let p = 512 * dirStart f .0 in
+        let k = 512 * dirLength f in
+        ap₂ (λ (a b : List ℕ). (a ++ take k (flat cs)) ++ b)
+        (take-paste-front image p (flat bs) k within (omega (arith, full)) p (omega arith))
+        (drop-paste image p (flat bs) k (omega arith) (omega (arith, full)))
 
     module _ (behind : 4 ≤ dirStart f .0) where
       pub with-facts : factsOf (withDirectory f image bs) ≡ factsOf image

@@ -12,6 +12,7 @@ pub mod Octets
 pub mod MapSteps
 pub mod Block
 pub mod Entry
+pub mod Titles
 pub mod Blocks
 pub mod Kept
 pub mod Places
@@ -27,6 +28,7 @@ pub mod Writes
 pub mod Cuts
 pub mod Deletes
 pub mod Creates
+pub mod Renames
 pub mod BytesKept
 pub mod Containers
 pub mod Wrapped

@@ -15,7 +15,7 @@ use Rattle.model.specs.Check.{sameNames}
 use Rattle.model.specs.Calls.{filled, hasRoom, placed, removedIn, removed, onNamed, rewrittenIn, rewritten}
 use Rattle.model.proofs.Lists.{or-false, any-append, flat-append}
 use Rattle.laws.proofs.Reorder.{any-split, map-none, none-behind}
-use Rattle.laws.proofs.Block.{sound, Clean, rest, split, used-within, added-reads, removed-reads, Keeps, rewritten-reads}
+use Rattle.laws.proofs.Block.{sound, Clean, rest, split, used-within, added-reads, removed-reads, Sized, rewritten-reads}
 use Rattle.laws.proofs.Blocks.{Cleans, clean-parts, listing-append}
 use Rattle.laws.proofs.Kept.{both-named, on-other}
 
@@ -128,7 +128,7 @@ module _ (name : List ℕ) (bs : List (List ℕ)) (c : Cleans bs) (d : distinct 
         long = removed-reads name (f .it) (clean-parts (f .before) (f .it ∷ f .behind) k .1 .0) .clean .long;
       }
 
-  pub rewritten-one : (g : List ℕ → List ℕ) → Keeps g → OneBlock bs (rewritten name g bs)
+  pub rewritten-one : (g : List ℕ → List ℕ) → Sized name g → OneBlock bs (rewritten name g bs)
   unfolding Cleans rewritten
   rewritten-one g k =
       let f = found name bs d h in

@@ -2,20 +2,20 @@
 -- depends on 18, and what the tests of a changing call that is not refused have shown.
 use Prim.Native.Nat.{ℕ, zero, suc, _+_, _≤_}
 use mathlib.Core.Path.{_≡_, refl, sym, _∙_}
-use mathlib.Core.Bool.{Bool, true, false, not}
+use mathlib.Core.Bool.{Bool, true, false, not, _&&_}
 use mathlib.Core.List.{List}
 use native.Mathlib.Omega.{arith}
 use lib.ListN.{length}
 use lib.Dec.{eqb, ltb}
 use borrow.Author.Tests.{not-false, eqb-false, eq-eqb, ne-eqb, ltb-false}
-use Rattle.model.specs.Lists.{any}
+use Rattle.model.specs.Lists.{any, keep}
 use Rattle.model.specs.Bytes.{byte}
 use Rattle.model.specs.Facts.{factsOf, A, nextNumber, freeCount, isLocked}
 use Rattle.model.specs.Directory.{padded, directoryBlocks, directory, forkOf, flagsLock, blockCount, named}
 use Rattle.model.specs.Check.{orElse, firstOf, verdict, Accepted}
 use Rattle.model.specs.Calls.{Call, Known, nameOf, forkGiven, grown, needed, badName, tooLong, checks, refuses, entryNamed, hasRoom, knownIn, refusal}
-use Rattle.model.specs.Calls.{change, after}
-use Rattle.model.specs.Calls.Call.{create, write, cut, delete}
+use Rattle.model.specs.Calls.{sameSize, removed, change, after}
+use Rattle.model.specs.Calls.Call.{create, write, cut, delete, rename}
 use Rattle.model.specs.declared.Fork.{Fork}
 use Rattle.model.proofs.Lists.{or-false}
 use Rattle.model.proofs.Check.{else-zero, accepted-verdict}
@@ -77,6 +77,8 @@ withFull k full = record {
   free = k .free;
   next = k .next;
   full = full;
+  another = k .another;
+  crowded = λ new. full;
 }
 
 -- a create needs to be told that it gives 18, and gives no 17
@@ -104,6 +106,36 @@ create-never name finder made changed k =
     other (k .locked) 11 refl (other (badName name) 12 refl (other (tooLong name) 21 refl (other (k .exists) 14 refl
     (other (eqb (k .next) 4294967295) 19 refl (other (k .full) 18 refl no-check)))))
 
+-- and so does a rename
+pub rename-fed : (name new : List ℕ) (changed : ℕ) (k : Known)
+    → refuses (rename name new changed) k ≡ refuses (rename name new changed) (withFull k (eqb (refuses (rename name new changed) k) 18))
+unfolding refuses withFull
+rename-fed name new changed k =
+    go (k .locked) (badName name) (badName new) (tooLong new) (not (k .exists)) (k .fileLocked) (k .another new) (not (sameSize name new)) (k .crowded new)
+  where
+    number : (l b c t e k a s f : Bool) → ℕ
+    number l b c t e k a s f =
+        orElse l 11 (orElse b 12 (orElse c 12 (orElse t 21 (orElse e 13 (orElse k 15 (orElse a 14 (orElse (s && f) 18 0)))))))
+
+    go : (l b c t e k a s f : Bool) → number l b c t e k a s f ≡ number l b c t e k a s (eqb (number l b c t e k a s f) 18)
+    go true b c t e k a s f = refl
+    go false true c t e k a s f = refl
+    go false false true t e k a s f = refl
+    go false false false true e k a s f = refl
+    go false false false false true k a s f = refl
+    go false false false false false true a s f = refl
+    go false false false false false false true s f = refl
+    go false false false false false false false false f = refl
+    go false false false false false false false true true = refl
+    go false false false false false false false true false = refl
+
+pub rename-never : (name new : List ℕ) (changed : ℕ) (k : Known) → refuses (rename name new changed) k ≡ 17 → ⊥
+unfolding refuses
+rename-never name new changed k =
+    other (k .locked) 11 refl (other (badName name) 12 refl (other (badName new) 12 refl (other (tooLong new) 21 refl
+    (other (not (k .exists)) 13 refl (other (k .fileLocked) 15 refl (other (k .another new) 14 refl
+    (other (not (sameSize name new) && k .crowded new) 18 refl no-check)))))))
+
 -- ---- what a call that is not refused has shown
 
 -- a name of 1 to 255 bytes
@@ -126,7 +158,7 @@ pub record MayCreate (image name : List ℕ) : Type 0 where
   pub number : nextNumber (factsOf image) ≡ 4294967295 → ⊥
   pub room : any (hasRoom (padded (51 + length name))) (directoryBlocks (factsOf image) image) ≡ true
 
--- write, cut and delete: the file is there, and neither it nor the volume is locked
+-- write, cut, delete and rename: the file is there, and neither it nor the volume is locked
 pub record MayChangeFile (image name : List ℕ) : Type 0 where
   pub unlocked : isLocked (factsOf image) ≡ false
   pub title : GoodName name
@@ -144,6 +176,14 @@ pub record MayWrite (image name : List ℕ) (fork : Fork) (offset count : ℕ) :
 pub record MayCut (image name : List ℕ) (fork : Fork) (size : ℕ) : Type 0 where
   pub file : MayChangeFile image name
   pub within : size ≤ forkOf fork (entryNamed name image) .logical
+
+-- rename: no other file has the new name, and where its size differs some directory block has room once the entry is out
+pub record MayRename (image name new : List ℕ) : Type 0 where
+  pub file : MayChangeFile image name
+  pub title : GoodName new
+  pub other : any (named new) (keep (λ e. not (named name e)) (directory image)) ≡ false
+  pub room : sameSize name new ≡ false
+      → any (hasRoom (padded (51 + length new))) (removed name (directoryBlocks (factsOf image) image)) ≡ true
 
 -- both numbers are 0 where the answer is
 both-zero : (m n : ℕ) → firstOf m n ≡ 0 → (m ≡ 0) × (n ≡ 0)
@@ -205,6 +245,26 @@ module _ (image : List ℕ) where
       let s = may-change name _ (own-zero (cut name fork size changed) z) in
       let p₅ = else-zero (ltb (g .logical) size) 15 0 (s .1) in
       record { file = s .0; within = ltb-false (g .logical) size (p₅ .0) }
+
+  pub may-rename : (name new : List ℕ) (changed : ℕ) → refusal (rename name new changed) image ≡ 0 → MayRename image name new
+  unfolding refuses knownIn nameOf forkGiven
+  may-rename name new changed z =
+      let f = factsOf image in
+      let full = not (any (hasRoom (padded (51 + length new))) (removed name (directoryBlocks f image))) in
+      let p₁ = else-zero (isLocked f) 10 _ (own-zero (rename name new changed) z) in
+      let p₂ = else-zero (badName name) 11 _ (p₁ .1) in
+      let p₃ = else-zero (badName new) 11 _ (p₂ .1) in
+      let p₄ = else-zero (tooLong new) 20 _ (p₃ .1) in
+      let p₅ = else-zero (not (any (named name) (directory image))) 12 _ (p₄ .1) in
+      let p₆ = else-zero (flagsLock (byte (entryNamed name image) 0)) 14 _ (p₅ .1) in
+      let p₇ = else-zero (any (named new) (keep (λ e. not (named name e)) (directory image))) 13 _ (p₆ .1) in
+      let p₈ = else-zero (not (sameSize name new) && full) 17 0 (p₇ .1) in
+      record {
+        file = record { unlocked = p₁ .0; title = good-name name (p₂ .0); exists = not-false _ (p₅ .0); fileUnlocked = p₆ .0 };
+        title = good-name new (p₃ .0);
+        other = p₇ .0;
+        room = λ d. not-false _ (rw d at (p₈ .0));
+      }
 
   pub may-delete : (name : List ℕ) → refusal (delete name) image ≡ 0 → MayChangeFile image name
   unfolding refuses knownIn nameOf forkGiven

@@ -270,13 +270,16 @@ module _ {A : Type 0} (d x : A) where
       go (swap y z xs) (suc (suc i)) l e = (suc (suc i), l, e)
       go (then r s) i l e = let k = go r i l e in go s (k .0) (k .1) (k .2)
 
-  pub in-map : (f : A → A) → f x ≡ x → (xs : List A) → In xs → In (map f xs)
-  in-map f w xs h = go xs (h .0) (h .1) (h .2)
+  pub in-changed : (f : A → A) (xs : List A) → In xs → (i : ℕ) × (i < length (map f xs)) × (getD (map f xs) i d ≡ f x)
+  in-changed f xs h = go xs (h .0) (h .1) (h .2)
     where
-      go : (xs : List A) (i : ℕ) → i < length xs → getD xs i d ≡ x → In (map f xs)
+      go : (xs : List A) (i : ℕ) → i < length xs → getD xs i d ≡ x → (j : ℕ) × (j < length (map f xs)) × (getD (map f xs) j d ≡ f x)
       go [] i l e = absurd (omega arith)
-      go (y ∷ xs) zero l e = (0, omega arith, ap f e ∙ w)
-      go (y ∷ xs) (suc i) l e = later (f y) (map f xs) (go xs i (omega arith) e)
+      go (y ∷ xs) zero l e = (0, omega arith, ap f e)
+      go (y ∷ xs) (suc i) l e = let k = go xs i (omega arith) e in (suc (k .0), omega (arith, k .1), k .2)
+
+  pub in-map : (f : A → A) → f x ≡ x → (xs : List A) → In xs → In (map f xs)
+  in-map f w xs h = let k = in-changed f xs h in (k .0, k .1, k .2 ∙ w)
 
   pub in-keep : (p : A → Bool) → p x ≡ true → (xs : List A) → In xs → In (keep p xs)
   unfolding keep

@@ -19,19 +19,20 @@ use Rattle.model.specs.Check.{fires1, fires2, fires3, fires4, fires5, go
 use Rattle.model.specs.Check.{orElse, firstOf, fires8, fires9, fires10, from9, from8, from7, from6, from5, from4, from3, from2, verdict}
 use Rattle.model.specs.Container.{inside, tags, turned, added, summed, checksum, tagChecksum, badSize, badHeader, fires22, fires23, fires24}
 use Rattle.model.specs.Container.{containerVerdict, withData, renewed, badLengths, fixedFields, headerFor, wrapping}
-use Rattle.model.specs.Calls.{nameOf, forkGiven, fewest, grown, needed, badName, tooLong, checks, refuses, entryNamed, hasRoom, knownIn, refusal, bytesOf}
-use Rattle.model.specs.Calls.{forkBytes, putBlocks, putContent, readCount, copied, filled, newEntry, placed, removedIn, removed, onNamed, rewrittenIn}
-use Rattle.model.specs.Calls.{rewritten, withFork, withDirectory, withFiles, withNext, withFree, created, written, shortened, deleted, change, only}
+use Rattle.model.specs.Calls.{nameOf, forkGiven, fewest, grown, needed, badName, tooLong, sameSize, checks, refuses, entryNamed, hasRoom, knownIn, refusal}
+use Rattle.model.specs.Calls.{bytesOf, forkBytes, putBlocks, putContent, readCount, copied, filled, newEntry, placed, removedIn, removed, onNamed, rewrittenIn}
+use Rattle.model.specs.Calls.{rewritten, withFork, withDirectory, withFiles, withNext, withFree, created, written, shortened, deleted}
+use Rattle.model.specs.Calls.{retitled, renamedIn, renamed, change, only}
 use Rattle.model.specs.Calls.{tellsFacts, tellsEntry, tellsBlock, tellsBytes, reply, lent, answer, after}
 use Rattle.model.specs.Cases.{Plan, info, disk, entryBytes, weekEntry, ratesEntry, hallMap, hallPlan, hall, hallByRules, withBytes, sample, withWeek1}
 use Rattle.model.specs.Cases.{freeCount3, ring, info800, Row, Right, AllRight, end, _&_, weekFacts, pCases, PCases, hallFacts, ratesFacts, newsEntry}
 use Rattle.model.specs.Cases.{paddedDisk, staleDisk, deadDisk, fullWeek, resourceDisk, roomyDisk, longName, longDisk, twoBlocks, tellsRead, longFacts}
 use Rattle.model.specs.Cases.{telling, longNames, WEEK1, headOf, headWith, containers, accentDisk, accentFacts, lettersListed, pairsListed, othersLow}
-use Rattle.model.specs.Cases.{othersHigh, accented, lastPair, threes, FurtherCases}
+use Rattle.model.specs.Cases.{othersHigh, accented, lastPair, threes, flagged, flagDisk, tightDisk, renamings, FurtherCases}
 use Rattle.model.specs.Cases.Row.{does, passes3, gives3, wraps, stops, declines, serves, renews, twins, alone}
 use Rattle.model.specs.Calls.{Call, Answer}
 use Rattle.model.specs.declared.Fork.the-variants.{Data}
-use Rattle.model.specs.Calls.Call.{check, entry, find, block, read, create, write, cut, delete, wrap}
+use Rattle.model.specs.Calls.Call.{check, entry, find, block, read, create, write, cut, delete, wrap, rename}
 use Rattle.model.specs.Wrapped.{fileRefusal, fileAnswer, fileAfter}
 use Rattle.model.proofs.Lists.{every-at}
 use Rattle.model.proofs.Names.{unpaired, only-itself, lower-twin, upper-twin}
@@ -47,13 +48,13 @@ unfolding every any distinct keep first placeOf flat from times firstOr0
     entryIn noEntry flagsLock forksIn blockCount forkBlocks ownedBlocks letters accents pairs isPair paired sameByte sameName named
     fires1 fires2 fires3 fires4 fires5 goodEntry fires6 goodNumber fires7 emptyFork fullFork goodFork sharesNone fires8 fires9 fires10 from9 from8 from7 from6
     from5 from4 from3 from2 verdict
-    nameOf forkGiven fewest grown needed badName tooLong checks refuses entryNamed hasRoom knownIn refusal bytesOf forkBytes putBlocks putContent readCount
-    copied filled newEntry placed removedIn removed onNamed rewrittenIn rewritten withFork withDirectory withFiles withNext withFree created written shortened
-    deleted change only tellsFacts tellsEntry tellsBlock tellsBytes reply lent answer after
+    nameOf forkGiven fewest grown needed badName tooLong sameSize checks refuses entryNamed hasRoom knownIn refusal bytesOf forkBytes putBlocks putContent
+    readCount copied filled newEntry placed removedIn removed onNamed rewrittenIn rewritten withFork withDirectory withFiles withNext withFree created written shortened
+    deleted retitled renamedIn renamed change only tellsFacts tellsEntry tellsBlock tellsBytes reply lent answer after
     turned added summed checksum tagChecksum badSize badLengths
     info disk entryBytes weekEntry ratesEntry hallMap hallPlan hall hallByRules withBytes sample withWeek1 freeCount3 ring info800 Right weekFacts hallFacts
     ratesFacts newsEntry paddedDisk staleDisk deadDisk fullWeek resourceDisk roomyDisk longName longDisk twoBlocks tellsRead longFacts headOf headWith
-    accentDisk accentFacts
+    accentDisk accentFacts flagged flagDisk tightDisk
 everything = tt
 
 -- the facts are those of the 64 bytes at 1024
@@ -225,11 +226,12 @@ accented-right =
     & row & row & row & row & row & row & row & row & row & row & row & row & end
 
 pub further : FurtherCases
-unfolding everything telling longNames threes lastPair FurtherCases
+unfolding everything telling longNames threes renamings lastPair FurtherCases
 further = (
   row & row & row & row & row & row & row & row & row & end,
   row & row & row & row & row & row & row & row & row & row & row & end,
   containers-right,
   accented-right,
   row & row & row & row & row & row & looked & looked & looked & looked & looked & looked & refl & refl & refl & refl & end,
+  row & row & row & row & row & row & row & row & row & row & row & row & row & end,
 )

@@ -34,6 +34,7 @@ pub data Call : Type 0 where
   cut : (name : List ℕ) (fork : Fork) (size changed : ℕ) → Call
   delete : (name : List ℕ) → Call
   wrap : (name : List ℕ) (format : ℕ) (buffer : List ℕ) → Call
+  rename : (name new : List ℕ) (changed : ℕ) → Call
 
 -- ---- The refusals after 1 to 10
 
@@ -56,6 +57,10 @@ pub record Known : Type 0 where
   pub next : ℕ
   -- no directory block has room for the entry
   pub full : Bool
+  -- for a new name of that file (document 02, T-05): another file has it; no directory block has room for the entry with it, once
+  -- the file's own is out
+  pub another : List ℕ → Bool
+  pub crowded : List ℕ → Bool
 
 -- the fewest blocks of a bytes that hold n bytes
 unfoldable pub fewest : ℕ → ℕ → ℕ
@@ -81,6 +86,10 @@ badName name = eqb (length name) 0 || ltb 255 (length name)
 unfoldable pub tooLong : List ℕ → Bool
 tooLong name = ltb 31 (length name)
 
+-- T-05: with the new name the padded entry size is equal. A file's name is as long as the name that finds it.
+unfoldable pub sameSize : List ℕ → List ℕ → Bool
+sameSize name new = eqb (sizeFor (length name)) (sizeFor (length new))
+
 -- ---- What the image says
 
 -- the entry of that name; no bytes where there is none
@@ -90,23 +99,6 @@ entryNamed name image = first (named name) [] (directory image)
 -- room is counted from the end of the block's reading to the block's end
 unfoldable pub hasRoom : ℕ → List ℕ → Bool
 hasRoom size b = leb (readEnd b + size) 512
-
-unfoldable pub knownIn : List ℕ → List ℕ → Fork → Known
-knownIn image name fork =
-    let f = factsOf image in
-    let g = forkOf fork (entryNamed name image) in
-    record {
-      locked = isLocked f;
-      files = length (directory image);
-      exists = any (named name) (directory image);
-      fileLocked = flagsLock (byte (entryNamed name image) 0);
-      logical = g .logical;
-      blocks = blockCount (A f) g;
-      size = A f;
-      free = freeCount f;
-      next = nextNumber f;
-      full = not (any (hasRoom (sizeFor (length name))) (directoryBlocks f image));
-    }
 
 -- ---- Fork bytes
 
@@ -146,12 +138,15 @@ copied bytes o buffer =
 unfoldable pub filled : List (List ℕ) → List ℕ
 filled es = flat es ++ zeros (512 - length (flat es))
 
+-- an entry's bytes from its change date on: date, name with its length byte first, and a pad byte of 0
+abbrev pub dateAndName : ℕ → List ℕ → List ℕ
+dateAndName changed name = bytes32 changed ++ (length name ∷ (name ++ zeros ((51 + length name) % 2)))
+
 -- Create: flags 80 hex, version 0, the next file number, all fork fields and the pad byte zero, name, Finder bytes and both
 -- dates as given.
 unfoldable pub newEntry : ℕ → List ℕ → List ℕ → ℕ → ℕ → List ℕ
 newEntry number name finder created changed =
-    0x80 ∷ 0 ∷ (finder ++ (bytes32 number ++ (zeros 20 ++ (bytes32 created ++ (bytes32 changed
-    ++ (length name ∷ (name ++ zeros ((51 + length name) % 2))))))))
+    0x80 ∷ 0 ∷ (finder ++ (bytes32 number ++ (zeros 20 ++ (bytes32 created ++ dateAndName changed name))))
 
 -- It puts an entry after the last one of the first directory block with room.
 unfoldable pub placed : List ℕ → List (List ℕ) → List (List ℕ)
@@ -167,7 +162,7 @@ removedIn name b =
 unfoldable pub removed : List ℕ → List (List ℕ) → List (List ℕ)
 removed name bs = map (removedIn name) bs
 
--- write and cut: f is done to the entry of that name, and all else stays
+-- write, cut, and a rename that stays: f is done to the entry of that name, and all else stays
 unfoldable pub onNamed : List ℕ → (List ℕ → List ℕ) → List ℕ → List ℕ
 onNamed name f e = cond (named name e) (f e) e
 
@@ -231,6 +226,45 @@ deleted f image name e =
     let freed = forkBlocks (mapEntry image) (A f) (forkOf Data e) ++ forkBlocks (mapEntry image) (A f) (forkOf Resource e) in
     withFree (freeCount f + length freed)
     (withFiles (f .files - 1) (withDirectory f (putFree image freed) (removed name (directoryBlocks f image))))
+
+-- Rename (document 02, T-05): the change date is as given, and a pad byte is 0 afterwards; flags, Finder bytes, the file's own
+-- number, forks and creation date, which come before, stay.
+unfoldable pub retitled : List ℕ → ℕ → List ℕ → List ℕ
+retitled new changed e = take 46 e ++ dateAndName changed new
+
+-- If the padded entry size is equal the entry stays where it is; otherwise it is taken out as delete would, and put in as create
+-- would, into the first directory block with room once it is out.
+unfoldable pub renamedIn : List ℕ → List ℕ → ℕ → List ℕ → List (List ℕ) → List (List ℕ)
+renamedIn name new changed e bs =
+    elim (sameSize name new) [
+      | true ↦ rewritten name (retitled new changed) bs
+      | false ↦ placed (retitled new changed e) (removed name bs)
+    ]
+
+-- The number of files and the next file number stay.
+unfoldable pub renamed : VolumeFacts → List ℕ → List ℕ → List ℕ → ℕ → List ℕ → List ℕ
+renamed f image name new changed e = withDirectory f image (renamedIn name new changed e (directoryBlocks f image))
+
+-- ---- What the refusals are decided from, in an image
+
+unfoldable pub knownIn : List ℕ → List ℕ → Fork → Known
+knownIn image name fork =
+    let f = factsOf image in
+    let g = forkOf fork (entryNamed name image) in
+    record {
+      locked = isLocked f;
+      files = length (directory image);
+      exists = any (named name) (directory image);
+      fileLocked = flagsLock (byte (entryNamed name image) 0);
+      logical = g .logical;
+      blocks = blockCount (A f) g;
+      size = A f;
+      free = freeCount f;
+      next = nextNumber f;
+      full = not (any (hasRoom (sizeFor (length name))) (directoryBlocks f image));
+      another = λ new. any (named new) (keep (λ e. not (named name e)) (directory image));
+      crowded = λ new. not (any (hasRoom (sizeFor (length new))) (removed name (directoryBlocks f image)));
+    }
 
 -- ---- Answers
 
@@ -430,6 +464,21 @@ meaning (wrap name format buffer) = record {
   refuses = λ k. 0;
   reply = λ image. only 0 (wrapping image name format);
   change = unchanged;
+  wrapped = false;
+}
+-- Rename a file (document 02, T-05): 11; 12 for the old name, 12 for the new; 21 for the new; 13; 15; 14 for another file's name; 18.
+-- Its own name in other case is allowed.
+meaning (rename name new changed) = record {
+  name = name;
+  fork = Data;
+  lent = [];
+  fits = Bytes name × Bytes new × (changed < 2 ^ 32);
+  checks = verdict;
+  refuses = λ k. orElse (k .locked) 11 (orElse (badName name) 12 (orElse (badName new) 12 (orElse (tooLong new) 21
+      (orElse (not (k .exists)) 13 (orElse (k .fileLocked) 15 (orElse (k .another new) 14
+      (orElse (not (sameSize name new) && k .crowded new) 18 0)))))));
+  reply = numberAlone;
+  change = λ image. renamed (factsOf image) image name new changed (entryNamed name image);
   wrapped = false;
 }
 

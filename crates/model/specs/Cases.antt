@@ -1,5 +1,5 @@
--- The disk HALL, the P cases as one table under one statement, and five tables of further cases, the second on long names, the
--- third on wrapped files, the fourth on accents, the fifth on three bytes and two entries.
+-- The disk HALL, the P cases as one table under one statement, and six tables of further cases, the second on long names, the
+-- third on wrapped files, the fourth on accents, the fifth on three bytes and two entries, the sixth on rename.
 use Prim.Native.Nat.{ℕ, zero, suc, _+_, _-_, _*_, _/_, _%_, _<_}
 use mathlib.Core.Path.{_≡_}
 use mathlib.Core.Bool.{Bool, true, false, _||_}
@@ -15,7 +15,7 @@ use Rattle.model.specs.Directory.{noEntry, sameByte}
 use Rattle.model.specs.Check.{fires3, verdict}
 use Rattle.model.specs.Calls.{Call, Answer, lent, refusal, reply, change, only, tellsFacts, tellsEntry, tellsBlock, answer, after}
 use Rattle.model.specs.Container.{checksum, tagChecksum, badHeader, badLengths, renewed}
-use Rattle.model.specs.Calls.Call.{check, entry, find, block, read, create, write, cut, delete, wrap}
+use Rattle.model.specs.Calls.Call.{check, entry, find, block, read, create, write, cut, delete, wrap, rename}
 use Rattle.model.specs.Wrapped.{fileAnswer, fileAfter}
 use Rattle.model.specs.declared.VolumeFacts.{VolumeFacts}
 use Rattle.model.specs.declared.DirectoryEntry.{DirectoryEntry}
@@ -628,5 +628,70 @@ threes =
     ∷ puts (lastPair (0xab ∷ 0xcd ∷ 0xef ∷ [])) 641 0x789 (lastPair (0xab ∷ 0xc7 ∷ 0x89 ∷ []))
     ∷ []
 
+-- "WEEK30 BAD"
+abbrev pub BAD : List ℕ
+BAD = 87 ∷ 69 ∷ 69 ∷ 75 ∷ 51 ∷ 48 ∷ 32 ∷ 66 ∷ 65 ∷ 68 ∷ []
+
+-- an entry's change date and name
+abbrev pub dated : ℕ → List ℕ → List ℕ → List ℕ
+dated changed name pad = bytes32 changed ++ (length name ∷ (name ++ pad))
+
+-- WEEK1 of HALL with flags FE hex and Finder bytes, under another name and changed at 9
+unfoldable pub flagged : List ℕ → List ℕ → List ℕ
+flagged name pad =
+    flat
+    ((0xfe ∷ 0 ∷ sample 0 16) ∷ bytes32 1 ∷ forkBytesOf 2 700 1024 ∷ zeros 10 ∷ bytes32 2500000000 ∷ dated 9 name pad ∷ [])
+
+-- HALL with these flags and Finder bytes, and bytes behind the last entry
+unfoldable pub flagDisk : List ℕ
+flagDisk = withBytes 2048 (0xfe ∷ 0 ∷ sample 0 16) staleDisk
+
+-- a directory block full but for two bytes: names of 255, 31 and 15 bytes, and RATES; behind it blocks as given
+unfoldable pub tightDisk : ℕ → List ℕ → ℕ → List ℕ
+tightDisk dirLength more files =
+    disk
+    (record {
+      attributes = 0;
+      files = files;
+      dirLength = dirLength;
+      next = 9;
+      free = 4;
+      map = 0 ∷ 0 ∷ 1 ∷ [];
+      directory = upTo 512 (entryBytes 0x80 1 (zeros 10) (zeros 10) 7 8 (longName 65 255) []
+          ++ (entryBytes 0x80 3 (zeros 10) (zeros 10) 7 8 (longName 66 31) []
+          ++ (entryBytes 0x80 4 (zeros 10) (zeros 10) 7 8 (longName 68 15) [] ++ ratesEntry))) ++ more;
+    })
+
+-- document 02, T-05
+unfoldable pub renamings : List Row
+renamings =
+    -- equal padded size: the entry stays, with bytes behind the reading; the pad byte is 0, also where it was a name's or not 0
+    does flagDisk (rename WEEK1 NEWS 9) (only 0 []) (withBytes 2048 (flagged NEWS (0 ∷ [])) flagDisk)
+    ∷ does paddedDisk (rename NEWS (79 ∷ 76 ∷ 68 ∷ 83 ∷ []) 9) (only 0 [])
+    (withBytes 2094 (dated 9 (79 ∷ 76 ∷ 68 ∷ 83 ∷ []) (0 ∷ [])) paddedDisk)
+    -- its own name in other case, and in the same; another file's in other case
+    ∷ does hall (rename WEEK1 week1 9) (only 0 []) (withBytes 2094 (dated 9 week1 []) hall)
+    ∷ does hall (rename week1 WEEK1 9) (only 0 []) (withBytes 2094 (bytes32 9) hall)
+    ∷ refused 14 (rename WEEK1 (114 ∷ 97 ∷ 116 ∷ 101 ∷ 115 ∷ []) 9) hall
+    -- 21 before 13, 15 before 14
+    ∷ refused 21 (rename NEWS (longName 67 32) 9) hall
+    ∷ refused 15 (rename WEEK1 RATES 9) (withBytes 2048 (0x81 ∷ []) hall)
+    -- longer, in its own block behind the others, with zeros behind it
+    ∷ does flagDisk (rename WEEK1 BAD 9) (only 0 []) (withBytes 2048 (ratesEntry ++ (flagged BAD (0 ∷ []) ++ zeros 394)) flagDisk)
+    -- into an earlier block, and into a later one where its own has no room once it is out
+    ∷ does twoBlocks (rename RATES BAD 9) (only 0 [])
+    (withBytes 2480 (entryBytes 0x80 2 (forkBytesOf 3 512 512) (zeros 10) 2500000000 9 BAD (0 ∷ []) ++ zeros 74) twoBlocks)
+    ∷ does (tightDisk 2 (newsEntry 5 0) 5) (rename RATES (longName 67 31) 9) (only 0 [])
+    (withBytes 2502 (zeros 58)
+    (withBytes 2616 (entryBytes 0x80 2 (forkBytesOf 3 512 512) (zeros 10) 2500000000 9 (longName 67 31) []) (tightDisk 2 (newsEntry 5 0) 5)))
+    -- a full directory: its own block has room only once the entry is out, an old long name becoming a short one; no block has room
+    -- even then; equal size asks for none
+    ∷ does (longDisk 155) (rename (longName 97 255) NEWS 9) (only 0 [])
+    (withBytes 2048 (entryBytes 0xff 2 (zeros 10) (zeros 10) 7 8 (longName 66 155) []
+    ++ (entryBytes 0x80 1 (zeros 10) (zeros 10) 7 9 NEWS (0 ∷ []) ++ zeros 250)) (longDisk 155))
+    ∷ refused 18 (rename RATES (longName 67 31) 9) (tightDisk 1 [] 4)
+    ∷ does (tightDisk 1 [] 4) (rename RATES NEWS 9) (only 0 []) (withBytes 2548 (dated 9 NEWS (0 ∷ [])) (tightDisk 1 [] 4))
+    ∷ []
+
 unfoldable pub FurtherCases : Type 0
-FurtherCases = AllRight telling × AllRight longNames × AllRight containers × AllRight accented × AllRight threes
+FurtherCases = AllRight telling × AllRight longNames × AllRight containers × AllRight accented × AllRight threes × AllRight renamings
