@@ -10,20 +10,23 @@ import volume
 BY_NAME = 'FBRWUD'              # the calls on a file that is there
 FEW = 5                         # files that count as few, in these notes
 
-CALLS = ['%s 7, both spellings' % tag
-         for tag in replay.READING + replay.CHANGING]
+CALLS = ['%s 7, both spellings' % tag for tag in replay.NINE]
 CALLS += ['%s %s' % (tag, text) for tag in BY_NAME for text in (
     '0, other spelling', '13, accented name', '13, near miss')]
 CALLS += ['N ' + text for text in (
     '14, other spelling', '21, other spelling', '0, accented name',
     '0, near miss')]
+RENAMES = ['M ' + text for text in (
+    '7, both spellings', '0, other spelling', '13, accented name',
+    '13, near miss', '14, other spelling', '0, own name in other spelling',
+    '0, accented name', '0, near miss')]
 IMAGES = ['7, both spellings, ' + text for text in (
     'few files', 'many files', 'neighbours', 'apart', 'one block',
     'two blocks')]
 IMAGES += ['0, near misses, ' + text for text in ('few files', 'many files')]
 
-TEXTS = CALLS + ['X' + text for text in CALLS if ' 21' not in text] + [
-    'image ' + text for text in IMAGES]
+TEXTS = CALLS + ['X' + text for text in CALLS if ' 21' not in text] + (
+    RENAMES + ['image ' + text for text in IMAGES])
 
 # the byte stored and the byte given, for each pair both ways
 WAYS = [way for one, two in spelling.ACCENTS
@@ -67,7 +70,7 @@ class Notes:
     def fewest(self):
         """How often each call meets that way that it meets least, and each
         kind of image."""
-        for tag in BY_NAME + 'N':
+        for tag in BY_NAME + 'NM':
             yield min(self.spelt[(tag, place, *way)] for place in maker.PLACES
                       for way in WAYS), tag + ' by each pair at each place'
         for size in ('few', 'many'):
@@ -112,12 +115,32 @@ class Notes:
         tag = call[0]
         if self.both and number == 7:
             yield tag + ' 7, both spellings'
+        elif tag == 'M':
+            yield from self.renamed(*call[1:3], number)
         elif tag in BY_NAME + 'N' and number in (0, 13, 14, 21):
             yield from self.named(tag, call[1], number)
             if tag == 'N' and number == 0:
                 self.stored[spelling.fold(call[1])] = call[1]
             elif tag == 'D' and number == 0:
                 del self.stored[spelling.fold(call[1])]
+
+    def renamed(self, old, new, number):
+        if number in (0, 13):
+            yield from self.named('M', old, number)
+        there = self.stored.get(spelling.fold(new))
+        if there is not None and there.upper() != new.upper():
+            if number == 14:
+                yield 'M 14, other spelling'
+            elif number == 0:
+                yield 'M 0, own name in other spelling'
+        if number == 0:
+            del self.stored[spelling.fold(old)]
+            if spelling.accented(new):
+                yield 'M 0, accented name'
+            if any(spelling.near_miss(new, other)
+                   for other in self.stored.values()):
+                yield 'M 0, near miss'
+            self.stored[spelling.fold(new)] = new
 
     def named(self, tag, name, number):
         own = self.stored.get(spelling.fold(name))

@@ -55,6 +55,14 @@ def by_other(tape, own, other, fork):
     tape.gives(0, 'F', own)
 
 
+def renamed(tape, own, other):
+    """A file gets its own name, its other spelling, and its own again."""
+    tape.gives(0, 'M', other, own, DATE)
+    tape.gives(0, 'M', own, other, DATE)
+    tape.gives(0, 'M', own, own, DATE)
+    tape.gives(0, 'F', other)
+
+
 def each_pair(tape):
     """Each pair at each place of a name, both ways."""
     rng = random.Random(51)
@@ -65,6 +73,7 @@ def each_pair(tape):
         tape.add('I', roomy(rng, names).image())
         tape.gives(0, 'C')
         for name in names:
+            renamed(tape, name, spelling.swapped(name))
             by_other(tape, name, spelling.swapped(name), half)
         for name in names:
             by_other(tape, spelling.swapped(name), name, 1 - half)
@@ -97,6 +106,8 @@ def old_names(tape):
 def by_missing(tape, name, turn):
     """Calls by a name that no file has, and a file made with it."""
     tape.gives(13, 'F', name)
+    if turn % 12 == 0:
+        tape.gives(13, 'M', name, b'New', DATE)
     tape.gives(13, *(('B', name, 0, 0), ('R', name, 1, 0, 9), ('D', name),
                      ('W', name, 0, 0, b'none', DATE),
                      ('U', name, 1, 0, DATE))[turn % 5])
@@ -211,7 +222,7 @@ def refused(tape, rng, m, tags, number=7):
         tape.expect(number, 'both spellings')
 
 
-TURNS = ('CFN', 'CER', 'CBW', 'CUD')
+TURNS = ('CFN', 'CER', 'CBW', 'CUDM')
 
 
 def both_spellings(tape):
@@ -290,6 +301,11 @@ def twinned_school(tape):
         tape.gives(number, *create(mac(name)))
     tape.gives(0, 'W', mac('été'), 0, 0, b'1985', 1)
     tape.gives(0, 'R', mac('éTÉ'), 0, 0, 9)
+    for old, new, number in (
+            ('ete', 'éTÉ', 14), ('été', 'étÈ', 14), ('Êté', 'ÉTè', 14),
+            ('êté', 'ÊTÉ', 13), ('éTé', 'Eté', 0), ('été', 'Été', 13),
+            ('eTé', 'Été', 0)):
+        tape.gives(number, 'M', mac(old), mac(new), 2)
     for name, number in (('été', 0), ('ete', 0), ('ÉTè', 0), ('ÉTÈ', 0),
                          ('êTÉ', 13), ('ÊtÉ', 0), ('eté', 13), ('ét', 13),
                          ('étéé', 13), ('étë', 13), ('', 12)):
@@ -349,16 +365,17 @@ def orders(tape):
     own, other, near = mac('Relevé'), mac('RELEVÉ'), mac('RelevÈ')
     full = [own] + [b'%d' % i + b'.' * 25 for i in range(5)] + [b'L' * 9]
     for names, want, numbers in (
-            ([own], {'locked': True}, (11, 11, 11, 11, 11)),
-            ([own], {'file_locks': 1}, (14, 0, 15, 15, 13)),
-            ([own], {'next_kind': 'end'}, (14, 19, 0, 0, 13)),
-            (full, {'dir_length': 1}, (14, 18, 0, 0, 13))):
+            ([own], {'locked': True}, (11, 11, 11, 11, 11, 11)),
+            ([own], {'file_locks': 1}, (14, 0, 15, 15, 13, 15)),
+            ([own], {'next_kind': 'end'}, (14, 19, 0, 0, 13, 0)),
+            (full, {'dir_length': 1}, (14, 18, 0, 0, 13, 0))):
         tape.add('I', roomy(rng, names, **want).image())
         tape.gives(numbers[0], *create(other))
         tape.gives(numbers[1], *create(near))
         tape.gives(numbers[2], 'W', other, 0, 0, b'new', DATE)
         tape.gives(numbers[3], 'U', other, 0, 0, DATE)
         tape.gives(numbers[4], 'D', other[:-1])
+        tape.gives(numbers[5], 'M', other, other, DATE)
         tape.gives(0, 'F', other)
         tape.gives(16, 'B', other, 0, 9)
         tape.add('D', other)
@@ -371,7 +388,7 @@ def random_runs(tape, count, calls):
     for i in range(count):
         m = maker.accented_names(rng, (2, 5, 6, 12, 3, 9)[i % 6])
         tape.add('I', m.image())
-        tape.some(rng, [rng.choice('EFFBRRNNNWWUUDD') for _ in range(calls)])
+        tape.some(rng, [rng.choice('EFFBRRNNNWWUUDDMM') for _ in range(calls)])
         tape.add('C')
 
 

@@ -182,10 +182,31 @@ def delete_call(rng, state):
     return 'D', name_for(rng, state)[0]
 
 
+def rename_call(rng, state):
+    old, own = name_for(rng, state, 0.85)
+    own = own or old
+    r = rng.random()
+    if r < 0.5:
+        length = maker.new_length(rng)
+        if r < 0.15:
+            length = min(31, maker.length_for(rng, maker.File(own).size()))
+        new = maker.new_name(rng, length, state.names) or b'!'
+    elif r < 0.65:
+        new = maker.other_case(rng, good_name(rng, state))
+    elif r < 0.85:
+        new = rng.choice((own, maker.other_case(rng, own)))
+    elif r < 0.92:
+        new = maker.any_name(rng, maker.long_length(rng))
+    else:
+        new = bad_name(rng, state)
+    return 'M', old, new, rng.getrandbits(32)
+
+
 CHOICES = {
     'C': lambda rng, state: ('C',),
     'E': entry_call, 'F': find_call, 'B': block_call, 'R': read_call,
-    'N': create_call, 'W': write_call, 'U': cut_call, 'D': delete_call}
+    'N': create_call, 'W': write_call, 'U': cut_call, 'D': delete_call,
+    'M': rename_call}
 
 
 def choose(rng, state, kinds):

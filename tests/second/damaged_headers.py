@@ -22,11 +22,12 @@ import wrapped_runs
 import wrapper
 
 TAGS_AT = diskcopy.TAGS_AT
-LATER = 'EFBNUDK'           # one of these follows, by turns
+LATER = 'EFBNUDKM'          # one of these follows, by turns
 
 
 class Start:
-    """A sound file, and calls that succeed on it."""
+    """A sound file, and calls on it: the nine succeed, for wrap and rename it
+    is an image of wrong length."""
 
     def __init__(self, rng, tags):
         self.rng = rng
@@ -41,7 +42,8 @@ class Start:
         self.later = {'E': ('E', len(self.m.files()) - 1), 'F': ('F', name),
                       'B': ('B', name, 0, 1), 'U': ('U', name, 0, 700, 2),
                       'N': ('N', b'NEW', bytes(range(16)), 3, 4),
-                      'D': ('D', name), 'K': ('K', b'NEW', 5, TAGS_AT)}
+                      'D': ('D', name), 'K': ('K', b'NEW', 5, TAGS_AT),
+                      'M': ('M', name, b'WEEK30 BAD', 6)}
         self.turn = 0
 
     def case(self, text, file):
@@ -131,7 +133,8 @@ def bare_and_wrapped(start):
     """A wrapped file as a bare image, and a bare image as a wrapped file."""
     for letter, file in (('I', start.file), ('X', start.m.image())):
         tape = tapes.Tape()
-        for call in [(letter, file)] + start.first + [start.later['K']]:
+        for call in [(letter, file)] + start.first + [
+                start.later['K'], start.later['M']]:
             tape.add(*call)
         yield 'record %s' % letter, tape
 

@@ -8,7 +8,8 @@ that differs gives a line, and the exit code is then 1.  With --counts tables
 show how often each call gives each number, how often it succeeds on names of
 each length, and what else the list must contain.  With --bad only the bad
 inputs for the programs are written, NAME.in and NAME.out side by side:
-list-... for the listing, replay-..., changes-... and wrapped-... for replay.
+list-... for the listing, replay-..., changes-..., wrapped-... and rename-...
+for replay.
 """
 
 import argparse
@@ -21,6 +22,7 @@ import chooser
 import hall
 import listing
 import maker
+import renames
 import replay
 import spelling
 import tapes
@@ -31,10 +33,11 @@ import wrapped_runs
 CALLS = 'all'
 
 READING = replay.READING
-ALL = READING + replay.CHANGING
+NINE = replay.NINE
+ALL = replay.ALL
 
 # stdin has fewer bytes than this
-LARGEST = {'reading': 4000000, 'all': 17000000}
+LARGEST = {'reading': 4000000, 'all': 17400000}
 FEWEST_CALLS = {'reading': 2000, 'all': 6000}
 FEWEST_EACH = 10
 
@@ -42,11 +45,15 @@ FEWEST_EACH = 10
 CAN_GIVE = {tag: list(range(11)) + more for tag, more in {
     'C': [], 'E': [13], 'F': [12, 13], 'B': [12, 13, 16], 'R': [12, 13, 16],
     'N': [11, 12, 21, 14, 19, 18], 'W': [11, 12, 13, 15, 16, 17],
-    'U': [11, 12, 13, 15, 16], 'D': [11, 12, 13, 15]}.items()}
+    'U': [11, 12, 13, 15, 16], 'D': [11, 12, 13, 15],
+    'M': [11, 12, 21, 13, 15, 14, 18]}.items()}
 # on a wrapped file, whose data are always 800 blocks
 WRAPPED = ['X' + tag for tag in ALL]
 CAN_GIVE.update({'X' + tag: [n for n in CAN_GIVE[tag] if n != 1]
-                 + [22, 23, 24] for tag in ALL})
+                 + [22, 23, 24] for tag in NINE})
+# for rename a wrapped file is an image of wrong length; 0 comes where a bare
+# image was said to be wrapped
+CAN_GIVE['XM'] = [0, 1]
 # wrap's 2 to 10 want nine more images of 400K, too many bytes for the list:
 # damaged_headers.py runs them
 CAN_GIVE['K'] = [0, 22]
@@ -109,7 +116,7 @@ def volumes_reading(tape, count):
         tape.some(rng, kinds, chooser.state_of_made(m))
 
 
-def large_reading(tape, shapes):
+def large_reading(tape, shapes, more=''):
     rng = random.Random(3)
     for shape in shapes:
         m = shape(rng)
@@ -125,6 +132,7 @@ def large_reading(tape, shapes):
             tape.add('B', name, fork, max(0, place))
         for offset in (0, logical // 2, logical - 1, logical, logical + 1):
             tape.add('R', name, fork, max(0, offset), 65535)
+        tape.some(rng, more)
 
 
 def folding(tape):
@@ -237,7 +245,8 @@ def random_runs(tape, count, calls):
     for i in range(count):
         m = small_volume(rng, i) if i % 9 else maker.make(rng, limit=60)
         tape.add('I', m.image())
-        kinds = rng.choice(('CEFBRNNWWWUUD', 'NNWWWWUUDR', 'WWWUUR', 'NNND'))
+        kinds = rng.choice(('CEFBRNNWWWUUDM', 'NNWWWWUUDRM', 'WWWUURM',
+                            'NNNDM'))
         tape.some(rng, [rng.choice(kinds) for _ in range(calls)])
         tape.add('C')
 
@@ -336,7 +345,7 @@ def locks(tape, count):
                        styles=('some', 'short', 'full'))
         tape.add('I', m.image())
         tape.create_new(rng, maker.long_length(rng))
-        tape.some(rng, 'NWUDWUDNWUDWUDWUDC')
+        tape.some(rng, 'NWUDMWUDNWUDMWUDWUDMC')
 
 
 def long_names_changes(tape, count):
@@ -381,17 +390,17 @@ def large_changes(tape):
             tape.add('R', b'LONG', fork, offset, 65535)
     for place in range(0, 70, 3):
         tape.add('B', b'LONG', 0, place)
-    tape.some(rng, 'NWUDFEBR' * 12)
+    tape.some(rng, 'NWUDMFEBR' * 12)
     tape.add('U', b'LONG', 0, 10000, 6)
     tape.add('D', b'Long')
-    tape.some(rng, 'NWUDFEBR' * 4)
+    tape.some(rng, 'NWUDMFEBR' * 4)
     tape.add('C')
     m = maker.most_blocks(rng)
     tape.add('I', m.image())
-    tape.some(rng, 'CNWWUDFEBRC' * 5)
+    tape.some(rng, 'CNWWUDMFEBRC' * 5)
     m = maker.largest_blocks(rng)
     tape.add('I', m.image())
-    tape.some(rng, 'CNWWUDFEBRC' * 4)
+    tape.some(rng, 'CNWWUDMFEBRC' * 4)
 
 
 def reading_list():
@@ -417,7 +426,8 @@ def all_list():
     volumes_reading(tape, 100)
     long_names_reading(tape, 6)
     large_reading(tape, (maker.disk_400k_of_640, maker.longest_directory,
-                         maker.largest_blocks) + (middle_volume,) * 4)
+                         maker.largest_blocks) + (middle_volume,) * 4,
+                  'MF' * 4)
     damage(tape, ALL, 2)
     flips(tape, ALL, 30)
     random_runs(tape, 70, 30)
@@ -428,6 +438,7 @@ def all_list():
     locks(tape, 20)
     long_names_changes(tape, 10)
     accents.runs(tape)
+    renames.runs(tape)
     large_changes(tape)
     wrapped_runs.runs(tape)
     return tape
@@ -520,7 +531,8 @@ SOUND = {'I': replay.image(bytes(600)), 'X': replay.wrapped(bytes(600)),
          'N': replay.create(b'NEW', bytes(16), 1, 2),
          'W': replay.write(b'WEEK1', 0, 0, b'0123456789', 3),
          'U': replay.cut(b'WEEK1', 0, 0, 4), 'D': replay.delete(b'WEEK1'),
-         'K': replay.wrap(b'HALL', 0, 1000)}
+         'K': replay.wrap(b'HALL', 0, 1000),
+         'M': replay.rename(b'WEEK1', b'WEEK30 BAD', 5)}
 
 
 def long_names(name):
@@ -531,7 +543,10 @@ def long_names(name):
                          'W': replay.write(name, 0, 0, b'new', 3),
                          'U': replay.cut(name, 0, 0, 4),
                          'D': replay.delete(name)},
-            'wrapped-': {'K': replay.wrap(name, 0, 1000)}}
+            'wrapped-': {'K': replay.wrap(name, 0, 1000)},
+            'rename-': {'M-old': replay.rename(name, b'NEW', 5),
+                        'M-new': replay.rename(b'WEEK1', name, 5),
+                        'M-both': replay.rename(name, name, 5)}}
 
 
 def at_the_room():
@@ -551,8 +566,9 @@ def at_the_room():
 def bad_for_replay(rng):
     """Inputs for replay by name.  Those whose name starts with changes- hold
     records of the calls that change the image, those with wrapped- records of
-    wrapped files."""
+    wrapped files, those with rename- renames."""
     start = replay.image(hall.hall()) + replay.check()
+    old = b'M' + replay.name_field(b'WEEK1')
     inputs = {'replay-empty': b'',
               'replay-unknown-tag': start + b'Z' + replay.check(),
               'replay-unknown-tag-small': start + b'c',
@@ -565,9 +581,26 @@ def bad_for_replay(rng):
               'wrapped-hall': replay.wrapped(hall.hall()) + SOUND['E'] + start,
               'wrapped-only-length': start + b'X' + replay.u32(419329),
               'wrapped-largest-length': start + b'X' + b'\xFF' * 4,
-              'wrapped-largest-buffer': start + SOUND['K'][:-4] + b'\xFF' * 4}
+              'wrapped-largest-buffer': start + SOUND['K'][:-4] + b'\xFF' * 4,
+              'rename-no-image': SOUND['M'] + replay.rename(b'', b'', 0),
+              'rename-unknown-tag-small': start + b'm' + SOUND['M'][1:],
+              'rename-twice': start + SOUND['M'] * 2 + replay.check(),
+              'rename-hall-wrapped': (replay.wrapped(hall.hall())
+                                      + replay.check() + SOUND['M'] * 2),
+              'rename-one-name': start + old,
+              'rename-half-length': start + old + b'\0',
+              'rename-length-alone': start + old + b'\0\3',
+              'rename-no-date': start + SOUND['M'][:-4],
+              'rename-half-date': start + SOUND['M'][:-2],
+              'rename-old-cut-off-1024': start + b'M\4\0' + bytes(1023),
+              'rename-new-cut-off-1024': start + old + b'\4\0' + bytes(1023),
+              'rename-old-only-length': start + b'M\4\1',
+              'rename-new-only-length': start + old + b'\4\1',
+              'rename-old-largest': start + b'M\xFF\xFF',
+              'rename-new-largest': start + old + b'\xFF\xFF',
+              'rename-one-byte-more': start + SOUND['M'] + b'\0'}
     for family, tags in (('replay-', 'IEFBR'), ('changes-', 'NWUD'),
-                         ('wrapped-', 'XK')):
+                         ('wrapped-', 'XK'), ('rename-', 'M')):
         for tag in tags:
             for text, part in cut_off(tag, SOUND[tag]):
                 inputs[family + text] = start + part

@@ -13,9 +13,11 @@ import sys
 import diskcopy
 import volume
 
-# the letters of the calls that change nothing and of those that change
+# the letters of the nine calls: those that change nothing, those that change
 READING = 'CEFBR'
 CHANGING = 'NWUD'
+NINE = READING + CHANGING
+ALL = NINE + 'M'                # rename takes only bare images
 
 IMAGE_ROOM = 419328             # also for the buffer of K
 WRITE_ROOM = 65535
@@ -96,9 +98,13 @@ def wrap(name, format_byte, length):
     return b'K' + name_field(name) + bytes([format_byte]) + u32(length)
 
 
+def rename(old, new, changed):
+    return b'M' + name_field(old) + name_field(new) + u32(changed)
+
+
 RECORDS = {'I': image, 'X': wrapped, 'C': check, 'E': entry, 'F': find,
            'B': block, 'R': read, 'N': create, 'W': write, 'U': cut,
-           'D': delete, 'K': wrap}
+           'D': delete, 'K': wrap, 'M': rename}
 
 
 def record(call):
@@ -217,7 +223,7 @@ class Machine:
     def line(self, tag, number, *texts):
         self.counts[('X' if self.wrapped and tag != 'K' else '') + tag,
                     number] += 1
-        if tag in CHANGING and number == 0:
+        if tag in CHANGING + 'M' and number == 0:
             self.image_sum = total(self.image)
         words = [tag, str(number), *texts, str(self.image_sum)]
         self.lines.append(' '.join(words) + '\n')
@@ -249,6 +255,8 @@ class Machine:
             self.change(tag, fields)
         elif tag == 'K':
             self.wrap(fields)
+        elif tag == 'M':
+            self.rename(fields)
         else:
             raise BadRecord
 
@@ -302,6 +310,11 @@ class Machine:
         buffer = bytearray(b'\xEE' * fields.long(4, IMAGE_ROOM))
         number = diskcopy.wrap(self.image, name, format_byte, buffer)
         self.line('K', number, str(total(buffer)))
+
+    def rename(self, fields):
+        """On the bytes that are there, also where they are a wrapped file."""
+        old, new, changed = fields.name(), fields.name(), fields.number(4)
+        self.line('M', volume.rename(self.image, old, new, changed))
 
     def output(self):
         return ''.join(self.lines).encode('ascii')

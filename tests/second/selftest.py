@@ -1,13 +1,15 @@
 """Tests of the second implementation itself.
 
-Random runs of all nine calls start from made volumes.  After every call the
-image must be accepted, must read as a plain history says, and must equal,
-byte for byte, what the maker's writer gives for the same change made in plain
-lists.  Names at the edges of 12, 21 and 14, old long names and accented names
-run so too, disks inside wrapped files, and the cases P1 to P12.
+Random runs of all nine calls and of rename start from made volumes.  After
+every call the image must be accepted, must read as a plain history says, and
+must equal, byte for byte, what the maker's writer gives for the same change
+made in plain lists.  Names at the edges of 12, 21 and 14, old long names and
+accented names run so too, disks inside wrapped files, renames worked by hand,
+and the cases P1 to P12.
 """
 
 import random
+import struct
 import sys
 import time
 import unittest
@@ -28,7 +30,9 @@ import wrapper
 SEED = 19840124
 RUNS = 220
 CALLS = 60
-KINDS = 'CEFBRNNNWWWWWWUUUUDD'
+NINE_KINDS = 'CEFBRNNNWWWWWWUUUUDD'
+KINDS = NINE_KINDS + 'MMM'
+CHANGING = replay.CHANGING + 'M'
 
 
 # the letters of document 02's pairs, and a to z
@@ -83,8 +87,10 @@ class History:
         if tag == 'E':
             return 0 if args[0] < len(self.files) else 13
         name = args[0]
-        if tag in 'NWUD' and self.locked:
+        if tag in CHANGING and self.locked:
             return 11
+        if tag == 'M':
+            return self.rename(*args, no_room)
         if not 1 <= len(name) <= 255:
             return 12
         if tag == 'N' and len(name) > 31:
@@ -134,6 +140,25 @@ class History:
         file['changed'] = changed
         return 0
 
+    def rename(self, old, new, changed, no_room):
+        if not 1 <= len(old) <= 255 or not 1 <= len(new) <= 255:
+            return 12
+        if len(new) > 31:
+            return 21
+        file = self.files.get(key(old))
+        if file is None:
+            return 13
+        if file['flags'] & 1:
+            return 15
+        if self.files.get(key(new), file) is not file:
+            return 14
+        if no_room:
+            return 18
+        del self.files[key(old)]
+        self.files[key(new)] = file
+        file['name'], file['changed'] = new, changed
+        return 0
+
     def read(self, name, fork, offset, length):
         return self.files[key(name)]['bytes'][fork][offset:offset + length]
 
@@ -149,15 +174,35 @@ class Twin:
             for file in files:
                 if key(file.name) == key(name):
                     return files, file
+        return None, None
 
-    def no_room(self, name):
-        size = (len(name) + 52) // 2 * 2
-        return all(sum(f.size() for f in files) + size > 512
+    def no_room(self, call):
+        """Whether no block has room for what a create or a rename puts in,
+        the renamed file being out."""
+        tag, name = call[:2]
+        file = self.file(name)[1] if tag == 'M' else None
+        size = maker.File(call[2] if tag == 'M' else name).size()
+        if file is not None and file.size() == size:
+            return False
+        return all(sum(f.size() for f in files if f is not file) + size > 512
                    for files in self.m.directory)
 
     def clear(self, d):
         at = 512 * (self.m.dir_start + d)
         self.m.base[at:at + 512] = bytes(512)
+
+    def put_in(self, file):
+        for d, files in enumerate(self.m.directory):
+            if sum(f.size() for f in files) + file.size() <= 512:
+                files.append(file)
+                self.clear(d)
+                return
+
+    def take_out(self, files, file):
+        files.remove(file)
+        for d in range(self.m.dir_length):
+            if self.m.directory[d] is files:
+                self.clear(d)
 
     def change(self, call):
         m, tag, name = self.m, call[0], call[1]
@@ -167,20 +212,22 @@ class Twin:
             file.number = m.next_number
             m.next_number += 1
             m.file_count += 1
-            for d, files in enumerate(m.directory):
-                if sum(f.size() for f in files) + file.size() <= 512:
-                    files.append(file)
-                    self.clear(d)
-                    return
+            self.put_in(file)
+            return
         files, file = self.file(name)
         if tag == 'D':
             for fork in file.forks:
                 self.keep(fork, 0)
             m.file_count -= 1
-            files.remove(file)
-            for d in range(m.dir_length):
-                if m.directory[d] is files:
-                    self.clear(d)
+            self.take_out(files, file)
+            return
+        if tag == 'M':
+            size = file.size()
+            _, _, file.name, file.changed = call
+            file.pad = 0
+            if file.size() != size:
+                self.take_out(files, file)
+                self.put_in(file)
             return
         fork = file.forks[call[2]]
         file.changed = call[-1]
@@ -218,16 +265,16 @@ def carry_out(image, call, serve=bare):
         return number, (count, bytes(buffer))
     function = {'C': volume.check, 'E': volume.entry, 'F': volume.find,
                 'B': volume.block, 'N': volume.create, 'W': volume.write,
-                'U': volume.cut, 'D': volume.delete}[tag]
+                'U': volume.cut, 'D': volume.delete, 'M': volume.rename}[tag]
     result = serve(function, image, *args)
-    if tag in 'NWUD':
+    if tag in CHANGING:
         return result, ()
     return result[0], result[1:]
 
 
 ZEROS = {'C': (volume.NO_FACTS,), 'E': (volume.NO_ENTRY,),
          'F': (0, volume.NO_ENTRY), 'B': (0,),
-         'N': (), 'W': (), 'U': (), 'D': ()}
+         **dict.fromkeys(CHANGING, ())}
 
 
 def same(got, want, text):
@@ -300,7 +347,7 @@ class Run:
         """Makes a call and gives its number."""
         image, m, history, twin = self.image, self.m, self.history, self.twin
         before = bytes(image)
-        no_room = call[0] == 'N' and twin.no_room(call[1])
+        no_room = call[0] in 'NM' and twin.no_room(call)
         number, results = carry_out(image, call, self.serve)
         want = history.step(call, no_room)
         same(number, want, call)
@@ -308,7 +355,7 @@ class Run:
             same(bytes(image), before, 'a refused call changed the image')
             same(results, refused_results(call), 'refused call')
             return number
-        if call[0] in 'NWUD':
+        if call[0] in CHANGING:
             twin.change(call)
             same(bytes(image) == bytes(self.written()), True, call)
             compare(self.inside(), history, m)
@@ -349,9 +396,9 @@ class WrappedRun(Run):
         return diskcopy.inside(self.image)
 
 
-def one_run(rng, run, calls, seen):
+def one_run(rng, run, calls, seen, kinds=KINDS):
     for _ in range(calls):
-        call = chooser.choose(rng, run.history.state(), KINDS)
+        call = chooser.choose(rng, run.history.state(), kinds)
         number = run.call(*call)
         seen[call[0], number] = seen.get((call[0], number), 0) + 1
 
@@ -379,7 +426,8 @@ class Runs(unittest.TestCase):
                   'B': [0, 12, 13, 16], 'R': [0, 12, 13, 16],
                   'N': [0, 11, 12, 21, 14, 19, 18],
                   'W': [0, 11, 12, 13, 15, 16, 17],
-                  'U': [0, 11, 12, 13, 15, 16], 'D': [0, 11, 12, 13, 15]}
+                  'U': [0, 11, 12, 13, 15, 16], 'D': [0, 11, 12, 13, 15],
+                  'M': [0, 11, 12, 21, 13, 15, 14, 18]}
         for tag, numbers in wanted.items():
             for number in numbers:
                 self.assertGreaterEqual(seen.get((tag, number), 0), 10,
@@ -392,7 +440,7 @@ class Runs(unittest.TestCase):
             m = maker.damaged(rng, kind)
             image = m.image()
             before = bytes(image)
-            for tag in 'CEFBRNWUD':
+            for tag in replay.ALL:
                 call = chooser.choose(rng, chooser.state_of_made(m), tag)
                 number, _ = carry_out(image, call)
                 self.assertEqual(number, kind[0], kind[:2])
@@ -687,8 +735,8 @@ class Accents(unittest.TestCase):
         for i in range(40):
             m = maker.accented_names(rng, rng.choice((1, 2, 5, 6, 9, 20)))
             one_run(rng, Run(m), CALLS, seen)
-        for tag, number in [(tag, 0) for tag in 'FBRNWUD'] + [
-                (tag, 13) for tag in 'FBRWUD'] + [('N', 14)]:
+        for tag, number in [(tag, 0) for tag in 'FBRNWUDM'] + [
+                (tag, 13) for tag in 'FBRWUDM'] + [('N', 14), ('M', 14)]:
             self.assertGreaterEqual(seen.get((tag, number), 0), 5,
                                     (tag, number))
 
@@ -700,6 +748,11 @@ class Accents(unittest.TestCase):
             self.assertEqual(run.call('W', other, 0, 0, b'new', 5), 0)
             self.assertEqual(run.call('R', own, 0, 0, 5), 0)
             self.assertEqual(run.create(accents.beside(own, 1)), 0)
+            for old, new, number in (
+                    (other, other, 0), (own, b'Another', 0), (other, own, 13),
+                    (accents.beside(own, 1), b'aNOTHER', 14),
+                    (b'another', own, 0), (b'Other', other, 14)):
+                self.assertEqual(run.call('M', old, new, 6), number)
             self.assertEqual(run.call('D', other), 0)
             self.assertEqual(run.call('F', own), 13)
             self.assertEqual(run.call('D', accents.beside(own, 1)), 0)
@@ -740,7 +793,7 @@ class Wrapped(unittest.TestCase):
             wrapper.Wrapper(self.rng, tags=tags).file(self.m.image())
             for tags in (False, True)]
 
-    def gives(self, file, want, tags='CEFBRNWUD'):
+    def gives(self, file, want, tags=replay.NINE):
         """Each of these calls gives this number and, refused, nothing else."""
         before = bytes(file)
         state = chooser.state_of_made(self.m)
@@ -889,11 +942,244 @@ class Wrapped(unittest.TestCase):
                 m = maker.disk_400k(self.rng, **{
                     'dir_length': 2, 'base': 'sparse', **want})
                 around = wrapper.Wrapper(self.rng, tags=tags)
-                one_run(self.rng, WrappedRun(m, around), 2 * CALLS, seen)
+                one_run(self.rng, WrappedRun(m, around), 2 * CALLS, seen,
+                        NINE_KINDS)
         for tag, number in (('N', 0), ('W', 0), ('U', 0), ('D', 0), ('N', 11),
                             ('W', 11), ('W', 15), ('W', 16), ('W', 17)):
             self.assertGreaterEqual(seen.get((tag, number), 0), 3,
                                     (tag, number))
+
+
+def hall_entry(name, number, start, logical, physical, changed):
+    """An entry of HALL, its pad byte left out."""
+    return struct.pack('>BB16sIHIIHIIIIB', 0x80, 0, bytes(16), number, start,
+                       logical, physical, 0, 0, 0, 2500000000, changed,
+                       len(name)) + name
+
+
+def week(name=b'WEEK1', changed=2500600000):
+    return hall_entry(name, 1, 2, 700, 1024, changed)
+
+
+def rates(name=b'RATES', changed=2500000000):
+    return hall_entry(name, 2, 3, 512, 512, changed)
+
+
+class Renames(unittest.TestCase):
+    """T-05 of document 02.  On HALL the directory block is worked by hand,
+    and no byte outside it changes; in larger directories the names are."""
+
+    def setUp(self):
+        self.image = hall.hall()
+
+    def block(self, *parts):
+        """The directory block: these bytes, and otherwise zeros."""
+        self.image[2048:2560] = b''.join(parts).ljust(512, b'\0')
+
+    def renamed(self, old, new, changed, *parts):
+        """A rename, and the directory block after it."""
+        image = bytearray(self.image)
+        self.assertEqual(volume.rename(image, old, new, changed), 0)
+        self.block(*parts)
+        self.assertEqual(image, self.image)
+
+    def refused(self, number, old, new):
+        before = bytes(self.image)
+        self.assertEqual(volume.rename(self.image, old, new, 7), number)
+        self.assertEqual(bytes(self.image), before)
+
+    def test_hall(self):
+        self.block(week(), rates())
+        self.assertEqual(self.image, hall.hall())
+
+    def test_longer(self):
+        self.renamed(b'WEEK1', b'WEEK30 BAD', 7,
+                     rates(), week(b'WEEK30 BAD', 7), b'\0')
+        self.renamed(b'RATES', b'RATES12', 8,
+                     week(b'WEEK30 BAD', 7), b'\0', rates(b'RATES12', 8))
+        self.renamed(b'rates12', b'R' * 31, 9,
+                     week(b'WEEK30 BAD', 7), b'\0', rates(b'R' * 31, 9))
+
+    def test_shorter(self):
+        self.renamed(b'week1', b'W', 7, rates(), week(b'W', 7))
+        self.renamed(b'w', b'wK', 8, rates(), week(b'wK', 8), b'\0')
+        self.renamed(b'RATES', b'ab', 4294967295, week(b'wK', 8), b'\0',
+                     rates(b'ab', 4294967295), b'\0')
+
+    def test_stays(self):
+        """Five and four bytes make the same size."""
+        self.renamed(b'WEEK1', b'WEEK2', 7, week(b'WEEK2', 7), rates())
+        self.renamed(b'WEEK2', b'WEEK', 8, week(b'WEEK', 8), b'\0', rates())
+        self.renamed(b'WEEK', b'five5', 9, week(b'five5', 9), rates())
+
+    def test_own_name(self):
+        self.renamed(b'WEEK1', b'WEEK1', 7, week(b'WEEK1', 7), rates())
+        self.renamed(b'wEEk1', b'week1', 8, week(b'week1', 8), rates())
+        self.renamed(b'WEEK1', b'Week1', 9, week(b'Week1', 9), rates())
+
+    def test_stale_bytes(self):
+        """An entry that stays leaves what lies behind the last one."""
+        stale = b'\x7F' + bytes(range(100)) * 3 + bytes(99)
+        self.block(week(), rates(), stale)
+        self.renamed(b'RATES', b'RATE', 7, week(), rates(b'RATE', 7), b'\0',
+                     stale)
+        self.renamed(b'WEEK1', b'week1', 8, week(b'week1', 8),
+                     rates(b'RATE', 7), b'\0', stale)
+        self.renamed(b'RATE', b'RATES1', 9, week(b'week1', 8),
+                     rates(b'RATES1', 9), b'\0')
+
+    def test_stale_bytes_behind_shorter(self):
+        self.block(week(), rates(), b'\x7F' * 400)
+        self.renamed(b'WEEK1', b'WEE', 7, rates(), week(b'WEE', 7))
+
+    def test_pad(self):
+        """The renamed entry's pad byte becomes 0, the other's stays."""
+        names = week(b'WEEK'), b'\xAA', rates(b'RATE'), b'\xBB'
+        self.block(*names)
+        self.renamed(b'week', b'WEEK', 7, week(b'WEEK', 7), b'\0', *names[2:])
+        self.block(*names)
+        self.renamed(b'RATE', b'abcd', 7, *names[:2], rates(b'abcd', 7), b'\0')
+        self.block(*names)
+        self.renamed(b'WEEK', b'WEEK20', 7, *names[2:], week(b'WEEK20', 7),
+                     b'\0')
+        self.block(*names)
+        self.renamed(b'WEEK', b'ab', 7, *names[2:], week(b'ab', 7), b'\0')
+
+    def test_flags(self):
+        self.image[2048] = 0xFE
+        self.renamed(b'WEEK1', b'W', 7, rates(), b'\xFE' + week(b'W', 7)[1:])
+        self.renamed(b'W', b'X', 8, rates(), b'\xFE' + week(b'X', 8)[1:])
+
+    def test_refused(self):
+        """Each with all that would refuse it later."""
+        missing, over, most = b'none', b'o' * 256, b'm' * 255
+        self.image[2048] |= 1                       # WEEK1 is locked
+        for old, new in ((b'', b''), (over, over), (b'', b'RATES'),
+                         (over, most), (b'RATES', b''), (b'WEEK1', over),
+                         (missing, b'')):
+            self.refused(12, old, new)
+        for old in (missing, b'WEEK1', b'RATES'):
+            for length in (32, 33, 254, 255):
+                self.refused(21, old, b'n' * length)
+        for new in (b'WEEK1', b'rates', missing, b'n' * 31):
+            self.refused(13, missing, new)
+            self.refused(15, b'WEEK1', new)
+        self.refused(14, b'RATES', b'week1')
+        self.image[2048] &= 0xFE
+        self.refused(14, b'WEEK1', b'Rates')
+        for at in (10, 11):
+            self.image[1024 + at] = 0x80            # the volume is locked
+            for old, new in ((b'', b''), (b'WEEK1', most), (missing, b'A'),
+                             (b'WEEK1', b'RATES'), (b'WEEK1', b'WEEK2')):
+                self.refused(11, old, new)
+            self.image[1024 + at] = 0
+        self.image[1024 + 35] = 3                   # the free count
+        self.refused(10, b'', b'')
+
+    def test_old_names(self):
+        for name in OLD:
+            for new in (b'N', b'N' * 30, b'N' * 31):
+                run = Run(old_volume())
+                if len(name) > 31:
+                    for long in (name, name.swapcase(), b'N' * 32):
+                        self.assertEqual(run.call('M', name, long, 7), 21)
+                self.assertEqual(run.call('M', name.swapcase(), new, 7), 0)
+                self.assertEqual(run.call('F', name), 13)
+                self.assertEqual(run.call('R', new, 1, 0, 900), 0)
+
+    def run_in(self, *directory, **want):
+        """A run on a volume with these names in its directory blocks."""
+        names = [name for block in directory for name in block]
+        m = old_volume(names, dir_length=len(directory), **want)
+        files = m.files()
+        m.directory = [[files.pop(0) for _ in block] for block in directory]
+        return Run(m)
+
+    def names(self, run):
+        return [[file.name for file in files] for files in run.m.directory]
+
+    def test_room(self):
+        """Entries of 306, 96, 52 and 56 bytes, and two bytes left."""
+        there = [b'L' * 255, b'M' * 45, b'S', b'TTTT']
+        run = self.run_in(there)
+        self.assertEqual(run.call('M', b'S', b'tttt', 7), 14)
+        self.assertEqual(run.call('M', b'S', b'SSSS', 7), 18)
+        self.assertEqual(run.call('M', b'S', b'SSSSS', 7), 18)
+        self.assertEqual(run.call('M', b'S', b's' * 31, 7), 18)
+        self.assertEqual(run.call('M', b'TTTT', b'T' * 8, 7), 18)
+        self.assertEqual(run.create(b'N'), 18)
+        self.assertEqual(run.call('M', b'S', b'U', 7), 0)
+        self.assertEqual(self.names(run), [there[:2] + [b'U', b'TTTT']])
+        self.assertEqual(run.call('M', b'U', b'SSS', 7), 0)
+        self.assertEqual(self.names(run), [there[:2] + [b'TTTT', b'SSS']])
+        self.assertEqual(run.call('M', b'M' * 45, b'm' * 31, 7), 0)
+        self.assertEqual(self.names(run), [
+            [b'L' * 255, b'TTTT', b'SSS', b'm' * 31]])
+        self.assertEqual(run.call('M', b'SSS', b'S' * 17, 7), 0)
+        self.assertEqual(run.call('M', b'S' * 17, b'S' * 18, 7), 18)
+
+    def test_blocks(self):
+        """Two bytes are left in the first block, 460 and 408 in the others."""
+        long = [b'%d' % i * 31 for i in range(4)]
+        old = b'y' * 79
+        run = self.run_in(long + [b's', old], [b'b'], [b'c', b'd'])
+        for call, want in (
+                # no room in the first
+                ((b'c', b'cc'), [long + [b's', old], [b'b', b'cc'], [b'd']]),
+                # its own is the first with room
+                ((b'b', b'bb'), [long + [b's', old], [b'cc', b'bb'], [b'd']]),
+                # longer than what is left once it is out
+                ((b's', b'ssss'),
+                 [long + [old], [b'cc', b'bb', b'ssss'], [b'd']]),
+                # its block is left empty
+                ((b'd', b'dd'),
+                 [long + [old, b'dd'], [b'cc', b'bb', b'ssss'], []]),
+                ((old, b'y'),
+                 [long + [b'dd', b'y'], [b'cc', b'bb', b'ssss'], []]),
+                # shorter, and there is room before its own block
+                ((b'ssss', b's'),
+                 [long + [b'dd', b'y', b's'], [b'cc', b'bb'], []]),
+                ((b'bb', b'bbb'),
+                 [long + [b'dd', b'y', b's'], [b'cc', b'bbb'], []]),
+                ((b'cc', b'cccc'),
+                 [long + [b'dd', b'y', b's'], [b'bbb', b'cccc'], []])):
+            self.assertEqual(run.call('M', *call, 7), 0)
+            self.assertEqual(self.names(run), want)
+
+    def test_fills_a_block(self):
+        """Its own block, to the last byte."""
+        long = [b'%d' % i * 31 for i in range(4)]
+        run = self.run_in(long + [b's', b'y' * 79], [b'b'])
+        self.assertEqual(run.call('M', b's', b'sss', 7), 0)
+        self.assertEqual(self.names(run), [
+            long + [b'y' * 79, b'sss'], [b'b']])
+        self.assertEqual(run.m.tail_at(0)[0], run.m.tail_at(0)[1])
+
+    def test_last_number(self):
+        run = self.run_in([b'a', b'b'], next_kind='end')
+        self.assertEqual(run.create(b'c'), 19)
+        self.assertEqual(run.call('M', b'a', b'ccc', 7), 0)
+        self.assertEqual(run.call('M', b'b', b'd', 7), 0)
+
+    def test_record(self):
+        self.assertEqual(replay.rename(b'A', b'BC', 5),
+                         b'M\0\1A\0\2BC\0\0\0\5')
+
+    def test_wrapped(self):
+        """A wrapped file is an image of wrong length; a bare image said to be
+        wrapped is renamed in as it is."""
+        rng = random.Random(SEED + 12)
+        disk = maker.disk_400k(rng, base='sparse', file_locks=0)
+        record = replay.rename(disk.files()[0].name, b'NEW', 5)
+        image = disk.image()
+        for tags in (False, True):
+            file = wrapper.Wrapper(rng, tags=tags).file(image)
+            self.assertEqual(
+                replay.replay(replay.wrapped(file) + record),
+                b'M 1 %d\n' % replay.total(file))
+        bare = replay.replay(replay.image(image) + record)
+        self.assertEqual(bare[:4], b'M 0 ')
+        self.assertEqual(replay.replay(replay.wrapped(image) + record), bare)
 
 
 def load_tests(loader, tests, pattern):

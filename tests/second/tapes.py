@@ -7,6 +7,7 @@ import accent_notes
 import chooser
 import diskcopy
 import maker
+import rename_notes
 import replay
 import volume
 
@@ -33,6 +34,7 @@ CHANGES = ['%s %s tags' % (tag, text) for tag in replay.CHANGING
 MUST_MEET = (['create: ' + text for text in CREATES]
              + ['wrap: ' + text for text in WRAPS]
              + ['changed: ' + text for text in CHANGES]
+             + ['rename: ' + text for text in rename_notes.TEXTS]
              + ['accents: ' + text for text in accent_notes.TEXTS])
 
 
@@ -41,11 +43,6 @@ def length_kind(name):
         if len(name) in lengths:
             return kind
     return None
-
-
-def rooms(v):
-    """The bytes behind the last entry of each directory block."""
-    return [v.dir_block_end(d) - at for d, at in enumerate(v.ends)]
 
 
 def create_met(read, name, number):
@@ -62,14 +59,14 @@ def create_met(read, name, number):
 
 def room_met(v, name, number):
     kind = length_kind(name)
-    size = volume.even(volume.ENTRY_HEAD + len(name))
-    most = max(rooms(v))
+    size = volume.entry_size(name)
+    most = max(rename_notes.rooms(v))
     place = v.places.get(v.fold(name))
     if number == 0:
         d = v.entries[place].dir_block
-        if rooms(v)[d] == 0:
+        if rename_notes.rooms(v)[d] == 0:
             yield '0, fills its block'
-        if any(room > volume.ENTRY_HEAD for room in rooms(v)[:d]):
+        if any(room > volume.ENTRY_HEAD for room in rename_notes.rooms(v)[:d]):
             yield '0, passes a block with room for less'
     elif number == 18 and most == size - 2:
         yield '18, two bytes short'
@@ -115,8 +112,12 @@ class Tape:
     def add(self, *call):
         record = replay.record(call)
         self.records.append(record)
+        before = self.snapshot() if call[0] == 'M' else None
         self.machine.run(record)
         self.note_accents(call)
+        if before is not None:
+            self.note('rename', rename_notes.met(before, self.volume, call,
+                                                 self.number()))
         if call[0] == 'I':
             self.note_volume()
         elif call[0] == 'K':
@@ -137,7 +138,7 @@ class Tape:
     def note_accents(self, call):
         if call[0] in 'IX':
             self.note('accents', self.accents.image(self.inside()))
-        elif call[0] != 'K':
+        elif call[0] in (replay.NINE if self.machine.wrapped else replay.ALL):
             before = 'X' if self.machine.wrapped else ''
             self.note('accents', [before + text for text in self.accents.call(
                 call, self.number())])
@@ -186,6 +187,16 @@ class Tape:
         """The volume as it is."""
         return volume.Volume(self.inside())
 
+    def snapshot(self):
+        """The volume as it is, with an image of its own; None where it is
+        refused or in a wrapped file."""
+        try:
+            if not self.machine.wrapped:
+                return volume.Volume(bytes(self.machine.image))
+        except volume.Refused:
+            pass
+        return None
+
     def state(self):
         return chooser.state_of_volume(self.volume())
 
@@ -203,7 +214,7 @@ class Tape:
     def fill_last_block(self, rng):
         """Where no block has room for more than one new entry: a name that
         needs two bytes too many, then one that needs all of them."""
-        room = max(rooms(self.volume()))
+        room = max(rename_notes.rooms(self.volume()))
         if 52 <= room <= 82:
             self.create_new(rng, maker.length_for(rng, room + 2))
             self.create_new(rng, maker.length_for(rng, room))

@@ -1,5 +1,6 @@
 """The nine calls on a volume image, straight from the rules of document 01
-and, for number 21, of T-01 in document 02.  Names compare by spelling.py.
+and, for number 21, of T-01 in document 02; and rename, from T-05 there.  Names
+compare by spelling.py.
 
 The image is a bytearray.  Each call gives the number first: 0, or the number
 of the refusal.  A refusal changes no byte and its other results are zero.
@@ -13,6 +14,7 @@ of the refusal.  A refusal changes no byte and its other results are zero.
     write(image, name, fork, offset, data, changed)    number
     cut(image, name, fork, length, changed)            number
     delete(image, name)                                number
+    rename(image, old, new, changed)                   number
 """
 
 from collections import namedtuple
@@ -27,7 +29,7 @@ INFO_AT = 1024
 MAP_AT = 1088
 ENTRY_HEAD = 51             # bytes of an entry before the name's first byte
 LAST_NUMBER = 4294967295
-LONGEST_NEW = 31            # bytes of a name that create takes
+LONGEST_NEW = 31            # bytes of a name that create and rename give
 
 Facts = namedtuple('Facts', (
     'created', 'backup', 'attributes', 'files', 'dir_start', 'dir_length',
@@ -57,6 +59,10 @@ class Refused(Exception):
 
 def even(size):
     return size + size % 2
+
+
+def entry_size(name):
+    return even(ENTRY_HEAD + len(name))
 
 
 def blocks_for(length, block_size):
@@ -242,6 +248,10 @@ class Volume:
         if not 1 <= len(name) <= 255:
             raise Refused(12)
 
+    def refuse_long(self, name):
+        if len(name) > LONGEST_NEW:
+            raise Refused(21)
+
     def place_of(self, name):
         self.refuse_name(name)
         place = self.places.get(self.fold(name))
@@ -308,6 +318,25 @@ class Volume:
     def dir_block_end(self, d):
         return (self.facts.dir_start + d + 1) * LOGICAL_BLOCK
 
+    def with_room(self, size, ends):
+        """The first directory block with this much behind the end of its
+        reading."""
+        for d, at in enumerate(ends):
+            if self.dir_block_end(d) - at >= size:
+                return d
+        raise Refused(18)
+
+    def take_out(self, placed):
+        """Moves the later entries of the block up and clears what follows."""
+        later = self.image[placed.at + placed.size:self.ends[placed.dir_block]]
+        end = self.dir_block_end(placed.dir_block)
+        self.image[placed.at:end] = later + bytes(end - placed.at - len(later))
+
+    def put_in(self, d, at, raw):
+        """Stores an entry's bytes and clears what follows in its block."""
+        end = self.dir_block_end(d)
+        self.image[at:end] = raw + bytes(end - at - len(raw))
+
 
 def check(image):
     try:
@@ -367,25 +396,17 @@ def create(image, name, finder, created, changed):
         v = Volume(image)
         v.refuse_locked()
         v.refuse_name(name)
-        if len(name) > LONGEST_NEW:
-            raise Refused(21)
+        v.refuse_long(name)
         if v.fold(name) in v.places:
             raise Refused(14)
         if v.facts.next_number == LAST_NUMBER:
             raise Refused(19)
-        size = even(ENTRY_HEAD + len(name))
-        for d, at in enumerate(v.ends):
-            end = v.dir_block_end(d)
-            if end - at >= size:
-                break
-        else:
-            raise Refused(18)
+        d = v.with_room(entry_size(name), v.ends)
     except Refused as refused:
         return refused.number
-    image[at:end] = bytes(end - at)
-    HEAD.pack_into(image, at, 0x80, 0, bytes(finder), v.facts.next_number,
-                   0, 0, 0, 0, 0, 0, created, changed, len(name))
-    image[at + ENTRY_HEAD:at + ENTRY_HEAD + len(name)] = name
+    head = HEAD.pack(0x80, 0, bytes(finder), v.facts.next_number,
+                     0, 0, 0, 0, 0, 0, created, changed, len(name))
+    v.put_in(d, v.ends[d], head + name)
     v.store_next_number(v.facts.next_number + 1)
     v.store_files(v.facts.files + 1)
     return 0
@@ -455,7 +476,35 @@ def delete(image, name):
         v.store_map(b, 0)
     v.store_free(v.facts.free + len(dropped))
     v.store_files(v.facts.files - 1)
-    later = image[placed.at + placed.size:v.ends[placed.dir_block]]
-    end = v.dir_block_end(placed.dir_block)
-    image[placed.at:end] = later + bytes(end - placed.at - len(later))
+    v.take_out(placed)
+    return 0
+
+
+def rename(image, old, new, changed):
+    try:
+        v = Volume(image)
+        v.refuse_locked()
+        v.refuse_name(old)
+        v.refuse_name(new)
+        v.refuse_long(new)
+        placed = v.file_to_change(old)
+        other = v.places.get(v.fold(new))
+        if other is not None and v.entries[other] is not placed:
+            raise Refused(14)
+        size = entry_size(new)
+        stays = size == placed.size
+        if not stays:
+            ends = list(v.ends)
+            ends[placed.dir_block] -= placed.size   # once it is out
+            d = v.with_room(size, ends)
+    except Refused as refused:
+        return refused.number
+    raw = image[placed.at:placed.at + CHANGED_AT]
+    raw += struct.pack('>IB', changed, len(new)) + new
+    raw += bytes(size - len(raw))                   # the pad byte
+    if stays:
+        image[placed.at:placed.at + size] = raw
+    else:
+        v.take_out(placed)
+        v.put_in(d, ends[d], raw)
     return 0

@@ -16,7 +16,7 @@ import volume
 import water
 import wrapper
 
-ALL = replay.READING + replay.CHANGING
+NINE = replay.NINE
 ROOM = diskcopy.TAGS_AT             # the buffer's length that wrap takes
 WEEK = b'Week 01'
 
@@ -30,14 +30,15 @@ def wrap_call(rng, name_length=None, length=ROOM):
 # Refused files
 
 def refused(tape, rng, number, text, file, m, rounds):
-    """Calls of all kinds, each of which gives this number, and a wrap, for
-    which the file is an image of wrong length."""
+    """The nine calls, each of which gives this number, and a wrap and a
+    rename, for which the file is an image of wrong length."""
     tape.add('X', file)
     state = chooser.state_of_made(m)
-    for tag in ALL * rounds:
+    for tag in NINE * rounds:
         tape.some(rng, tag, state)
         tape.expect(number, text)
     tape.add(*wrap_call(rng))
+    tape.gives(1, *chooser.choose(rng, state, 'M'))
 
 
 def refused_inside(tape):
@@ -85,6 +86,14 @@ def short_files(tape):
 
 # Changes
 
+def refused_renames(tape, rng):
+    """Rename takes only bare images."""
+    for kind in 'MMEMFMR':
+        tape.some(rng, kind)
+        if kind == 'M':
+            tape.expect(1, 'rename in a wrapped file')
+
+
 def without_tags(tape):
     """A full disk: forks that grow until no block is left, a long run, and
     the directory filled."""
@@ -96,6 +105,7 @@ def without_tags(tape):
         tape.fill_fork(rng, turn)
         tape.some(rng, 'BR' + 'UU' * (turn % 6 == 5))
     tape.some(rng, [rng.choice('CEFBBBRNNWWWWUUDD') for _ in range(700)])
+    refused_renames(tape, rng)
     for turn in range(8):
         for length in rng.sample((31, 31, 31, 1, 30, 20, 1, 2, 27, 24), 7):
             tape.create_new(rng, length)
@@ -112,6 +122,7 @@ def with_tags(tape):
     tape.some(rng, [rng.choice('CEFFBBRRNNNWWWWUUUDD') for _ in range(1000)])
     tape.add('C')
     accents.on_a_disk(tape)
+    refused_renames(tape, rng)
 
 
 def last_numbers(tape):
@@ -140,8 +151,8 @@ def locked(tape):
 
 def wraps(tape):
     """The disk WATER, which is wrapped between changes; HALL is too short.  A
-    bare image said to be wrapped is refused by the nine calls, and wrap takes
-    it."""
+    bare image said to be wrapped is refused by the nine calls, and wrap and
+    rename take it."""
     rng = random.Random(38)
     tape.add('I', hall.hall())
     for _ in range(12):
@@ -159,7 +170,10 @@ def wraps(tape):
         tape.add(*wrap_call(rng, length=length))
     tape.add(*wrap_call(rng, 64, 409685))
     tape.add('X', disk)
-    tape.some(rng, ALL, chooser.state_of_volume(volume.Volume(disk)))
+    tape.some(rng, NINE, chooser.state_of_volume(volume.Volume(disk)))
+    tape.add(*wrap_call(rng))
+    for week in range(20, 32):
+        tape.gives(0, 'M', b'Week %02d' % week, b'WEEK%02d BAD' % week, week)
     tape.add(*wrap_call(rng))
 
 

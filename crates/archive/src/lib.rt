@@ -124,3 +124,11 @@ pub extern "C" fn mfs_delete(image: &mut [u8], name: &[u8]) -> u8
 {
     volume::delete(image, name)
 }
+
+// Gives a file another name and change date.
+#[no_mangle]
+pub extern "C" fn mfs_rename(image: &mut [u8], name: &[u8], new: &[u8], changed: u32) -> u8
+    ensures { λ r. ⌜ Does (Call.rename (now (name .entry)) (now (new .entry)) changed) (now (image .entry)) (toldNumber r) (now (image .exit)) ⌝ }
+{
+    volume::rename(image, name, new, changed)
+}

@@ -1,34 +1,27 @@
 -- Laws of a new file: the entry put in and the counts after it.
-use Prim.Native.Nat.{ℕ, _+_, _-_, _*_, _≤_, _<_}
-use mathlib.Core.Path.{_≡_, refl, sym, ap, _∙_}
+use Prim.Native.Nat.{ℕ, _+_, _*_, _≤_, _<_}
+use mathlib.Core.Path.{_≡_, sym, ap, _∙_}
 use mathlib.Core.Bool.{true}
 use mathlib.Core.List.{List, [], _∷_, _++_}
 use native.Mathlib.Omega.{arith}
-use lib.ListN.{length, drop}
-use lib.Seq.{paste, drop-drop}
-use borrow.Author.Tests.{leb-true}
+use lib.ListN.{length}
+use lib.Seq.{paste}
 use Rattle.model.specs.Lists.{any}
 use Rattle.model.specs.Bytes.{part}
 use Rattle.model.specs.Facts.{dirStart, dirLength, nextNumber}
-use Rattle.model.specs.Directory.{padded, entries, readEnd, cutBlocks, directoryBlocks}
+use Rattle.model.specs.Directory.{sizeFor, entries, readEnd, directoryBlocks}
 use Rattle.model.specs.Calls.{hasRoom, newEntry, filled, withFiles, withNext, created}
-use Rattle.model.proofs.Lists.{any-append}
 use Rattle.laws.proofs.Entry.{new-length, new-sound}
 use Rattle.laws.proofs.Blocks.{Cleans}
 use Rattle.laws.proofs.Acceptance.{readable-of}
 use Rattle.laws.proofs.BytesKept.{files-few}
 use Rattle.laws.proofs.DirectorySteps.{clean-now}
-use Rattle.directory.specs.Cursor.{Begins}
 use Rattle.entries.specs.Blocks.{Block}
 use Rattle.entries.specs.Rooms.{HasRoom}
-use Rattle.directory.proofs.Steps.{blocks-rest}
-use Rattle.entries.proofs.Located.{cut-at}
-use Rattle.entries.proofs.Rooming.{block-of, room-placed}
+use Rattle.entries.proofs.Rooming.{some-room, room-within, room-block, room-placed}
 use Rattle.model.specs.declared.VolumeFacts.{VolumeFacts}
-use Rattle.directory.specs.declared.Cursor.{Cursor}
 use Rattle.call_create.specs.Adding.{Adds, withFile}
 use Rattle.files.specs.Lookup.{Readable}
-use Rattle.files.proofs.Lookups.{some-block, first-passes}
 
 -- ---- the entry put in
 
@@ -44,33 +37,15 @@ module _ {f : VolumeFacts} {image : List ℕ} (r : Readable f image) where
   files-more = let few : f .files ≤ 2560 = rw (r .facts) (files-few image (r .accepted)) in omega arith
 
   module _ (title base end : ℕ) (a : Adds f image title base end) where
-    abbrev first : Cursor
-    first = record { base = 512 * dirStart f .0; at = 0; left = dirLength f - 1 }
-
-    first-begins : Begins (dirStart f) (dirLength f) first
-    first-begins =
-        let some = some-block r in
-        record { base = refl; at = refl; left = omega arith; rest = λ i. sym (blocks-rest i (dirLength f) (512 * dirStart f .0) (λ z. omega arith)) }
-
     pub adds-block : Block image base
-    adds-block = rw (a .room .block) (block-of image first (first-passes r first-begins) refl (a .room .index) (omega (arith, a .room .within, a .count)))
+    adds-block = room-block f image (a .left) (sizeFor title) base end (a .count) (a .room) dir-within dir-clean
 
-    pub adds-behind : (end ≡ readEnd (part base 512 image)) × (end + padded (51 + title) ≤ 512) × (title ≤ 255)
-    unfolding hasRoom
-    adds-behind = (a .room .ends, omega (arith, leb-true (readEnd (part base 512 image) + padded (51 + title)) 512 (a .room .room), a .room .ends), a .most)
+    pub adds-behind : (end ≡ readEnd (part base 512 image)) × (end + sizeFor title ≤ 512) × (title ≤ 255)
+    adds-behind = (a .room .ends, room-within f image (a .left) (sizeFor title) base end (a .count) (a .room), a .most)
 
     -- some block has room
-    pub adds-some : any (hasRoom (padded (51 + title))) (directoryBlocks f image) ≡ true
-    unfolding directoryBlocks any
-    adds-some =
-        let i = a .room .index in
-        let d = drop (512 * dirStart f .0) image in
-        let p = hasRoom (padded (51 + title)) in
-        let x = cutBlocks i d in
-        let b = part (512 * i) 512 d in
-        let y = cutBlocks (dirLength f - (i + 1)) (drop (512 * (i + 1)) d) in
-        let own : p b ≡ true = rw (drop-drop (512 * i) (512 * dirStart f .0) image, ← a .room .block) (a .room .room) in
-        ap (any p) (cut-at i (dirLength f) d (omega (arith, a .room .within, a .count))) ∙ any-append p x (b ∷ y) ∙ rw (a .room .none, own)
+    pub adds-some : any (hasRoom (sizeFor title)) (directoryBlocks f image) ≡ true
+    adds-some = some-room f image (a .left) (sizeFor title) base end (a .count) (a .room)
 
   -- the three stores
   pub added : (name finder : List ℕ) (made changed base end : ℕ) → Adds f image (length name) base end → length finder ≡ 16 → (x y z : List ℕ)

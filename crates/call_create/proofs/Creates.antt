@@ -1,7 +1,7 @@
 -- The returns of create: its refusals in their order, and the change.
-use Prim.Native.Nat.{ℕ, _+_, _-_, _*_, _≤_, _<_}
+use Prim.Native.Nat.{ℕ, _+_, _*_, _≤_, _<_}
 use mathlib.Core.Path.{_≡_, refl, subst}
-use mathlib.Core.Bool.{Bool, true, false, not}
+use mathlib.Core.Bool.{true, false}
 use mathlib.Core.List.{List}
 use native.Mathlib.Omega.{arith}
 use lib.ListN.{length, drop}
@@ -10,32 +10,23 @@ use Rattle.model.specs.Lists.{any}
 use Rattle.model.specs.Bytes.{Bytes}
 use Rattle.model.specs.Facts.{factsOf, dirStart, dirLength, nextNumber, isLocked}
 use Rattle.model.specs.Directory.{padded, cutBlocks, directoryBlocks, directory, named}
-use Rattle.model.specs.Check.{orElse}
 use Rattle.model.specs.Calls.{Does, Fits, nameOf, forkGiven, badName, tooLong, checks, refuses, knownIn, hasRoom, change, lent, reply}
 use Rattle.model.specs.Calls.Call.{create}
 use Rattle.laws.proofs.Refusals.{GoodName, good-name}
 use Rattle.directory.specs.Cursor.{Begins}
-use Rattle.entries.specs.Rooms.{HasRoom, Roomy}
+use Rattle.entries.specs.Rooms.{HasRoom}
+use Rattle.entries.proofs.Rooming.{no-room}
 use Rattle.model.specs.declared.VolumeFacts.{VolumeFacts}
 use Rattle.directory.specs.declared.Cursor.{Cursor}
 use Rattle.directory.specs.declared.EntryAt.{EntryAt}
-use Rattle.entries.specs.declared.Space.{Space}
-use Rattle.entries.specs.declared.Space.the-variants.{At, Nothing}
 use Rattle.call_create.specs.Adding.{Adds, withFile}
 use Rattle.files.specs.Told.{toldNumber}
 use Rattle.files.specs.Lookup.{Readable, NamedEntry, Missed}
 use Rattle.call_create.proofs.Added.{adds-some}
+use Rattle.files.proofs.Lookups.{missed-none}
 use Rattle.files.proofs.Replies.{refuse, serve}
 
 -- ---- the search for room from the directory's first block on
-
--- what it finds, by its case
-module _ (image : List ℕ) (start left size : ℕ) (s : Space) (h : Roomy image start left size s) where
-  pub room-at : (base end : ℕ) → s ≡ At base end → HasRoom image start left size base end
-  room-at base end p = rw p at h
-
-  pub room-none : s ≡ Nothing → any (hasRoom size) (cutBlocks (left + 1) (drop start image)) ≡ false
-  room-none p = rw p at h
 
 module _ (f : VolumeFacts) (image : List ℕ) (c : Cursor) (b : Begins (dirStart f) (dirLength f) c) (title size : ℕ) (q : size ≡ padded (51 + title)) where
   pub adds : (base end : ℕ) → HasRoom image (c .base) (c .left) size base end → 1 ≤ title → title ≤ 255 → nextNumber f < 4294967295
@@ -50,21 +41,13 @@ module _ (f : VolumeFacts) (image : List ℕ) (c : Cursor) (b : Begins (dirStart
     next = n;
   }
 
-  no-room : any (hasRoom size) (cutBlocks (c .left + 1) (drop (c .base) image)) ≡ false → any (hasRoom (padded (51 + title))) (directoryBlocks f image) ≡ false
-  unfolding directoryBlocks
-  no-room h =
-      let from : any (hasRoom size) (cutBlocks (c .left + 1) (drop (512 * dirStart f .0) image)) ≡ false
-      = subst (λ (k : ℕ). any (hasRoom size) (cutBlocks (c .left + 1) (drop k image)) ≡ false) (b .base) h in
-      let all : any (hasRoom size) (cutBlocks (dirLength f) (drop (512 * dirStart f .0) image)) ≡ false
-      = subst (λ (k : ℕ). any (hasRoom size) (cutBlocks k (drop (512 * dirStart f .0) image)) ≡ false) (b .left) from in
-      subst (λ (k : ℕ). any (hasRoom k) (cutBlocks (dirLength f) (drop (512 * dirStart f .0) image)) ≡ false) q all
+  none-there : any (hasRoom size) (cutBlocks (c .left + 1) (drop (c .base) image)) ≡ false
+      → any (hasRoom (padded (51 + title))) (directoryBlocks f image) ≡ false
+  none-there h =
+      let from = subst (λ (k : ℕ). any (hasRoom size) (cutBlocks (c .left + 1) (drop k image)) ≡ false) (b .base) h in
+      subst (λ (k : ℕ). any (hasRoom k) (directoryBlocks f image) ≡ false) q (no-room f image (c .left) size (b .left) from)
 
 -- ---- the returns
-
--- a good name that names nothing: no file has it
-missed-none : (u : Bool) (n : ℕ) → n ≡ orElse (not u) 13 0 → (n ≡ 0 → ⊥) → u ≡ false
-missed-none true n h z = absurd (z h)
-missed-none false n h z = refl
 
 -- a name that a new file may have
 pub record Short (name : List ℕ) : Type 0 where
@@ -77,9 +60,9 @@ pub record Fresh (image name : List ℕ) : Type 0 where
   pub none : any (named name) (directory image) ≡ false
 
 pub fresh : {image name : List ℕ} {number : ℕ} → Short name → Missed image name number → Fresh image name
-fresh {image} {name} {number} s m = record {
+fresh s m = record {
   title = s;
-  none = missed-none (any (named name) (directory image)) number (rw (s .good) at (m .fires)) (m .some);
+  none = missed-none (s .good) m;
 }
 
 pub fresh-title : {image name : List ℕ} → Fresh image name → GoodName name
@@ -123,7 +106,7 @@ module _ {f : VolumeFacts} {image : List ℕ} (r : Readable f image) (octets : B
         create-full {c} b {size} q h =
             let l′ = rw (r .facts) at l in
             let n′ = rw (r .facts) at n in
-            let h′ = rw (r .facts) at (no-room f image c b (length name) size q h) in
+            let h′ = rw (r .facts) at (none-there f image c b (length name) size q h) in
             refuse r octets (create name finder made changed) 18 fits refl
             (rw (l′, new .title .good, new .title .short, new .none, ne-eqb (nextNumber (factsOf image)) 4294967295 n′, h′)) (λ z. omega arith)
 

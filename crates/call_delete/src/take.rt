@@ -1,7 +1,6 @@
 // A file taken out.
 ghost use Rattle.files.specs.Leaves.{Deleted};
 ghost use Rattle.files.specs.Lookup.{FileAt};
-use directory::Cursor;
 use directory::EntryAt;
 use entries::put_files;
 use entries::put_free;
@@ -22,8 +21,7 @@ pub fn take_file(image: &mut [u8], f: VolumeFacts, e: EntryAt)
     let in_resource = block_count(resource, a) as u16;
     blockmap::free_chain(image, n, data.start, in_data);
     blockmap::free_chain(image, n, resource.start, in_resource);
-    let base = e.start - e.start % Cursor::BLOCK;
-    entries::remove_entry(image, base, e);
+    entries::remove_entry(image, e);
     put_files(image, f.files - 1);
     put_free(image, f.free_blocks + in_data + in_resource);
 }

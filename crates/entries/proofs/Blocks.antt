@@ -5,14 +5,14 @@ use mathlib.Core.Bool.{true}
 use mathlib.Core.List.{List, [], _∷_, _++_, append-assoc, append-nil}
 use native.Mathlib.Omega.{arith}
 use lib.ListN.{length, take, drop, set, length-append, length-drop, length-replicate, getD-replicate, take-append-drop}
-use lib.Seq.{paste, take-paste, drop-paste, drop-drop, take-all, take-take, length-take-le, getD-drop}
+use lib.Seq.{paste, take-paste, drop-paste, drop-drop, take-all, take-take, take-add, length-take-le, getD-drop}
 use borrow.Author.Tests.{eqb-true, not-false}
 use Rattle.model.specs.Lists.{every, flat}
 use Rattle.model.specs.Bytes.{byte, zeros, part}
 use Rattle.model.specs.Directory.{padded, entrySize, readAt, entries, readEnd, cutBlocks, listing}
 use Rattle.model.specs.Check.{goodEntry, fires6}
 use Rattle.model.specs.Calls.{filled}
-use Rattle.model.proofs.Lists.{and-true, every-append}
+use Rattle.model.proofs.Lists.{and-true, every-append, flat-append}
 use Rattle.model.proofs.Copies.{move-byte}
 use Rattle.laws.proofs.Stores.{drop-take-add, paste-behind}
 use Rattle.laws.proofs.Block.{Clean, used-within}
@@ -171,6 +171,17 @@ module _ (image : List ℕ) (base : ℕ) (e : EntryAt) (k : Block image base) (s
   pub behind-within : e .start + padded (51 + e .«name_length») ≤ base + readEnd b
   behind-within = omega (arith, start-here, size-here, used-here)
 
+  -- the block's reading without it
+  pub others-here : length (flat (l .before ++ l .behind)) + padded (51 + e .«name_length») ≡ readEnd b
+  others-here =
+      let both = ap (length {A = ℕ}) (flat-append (l .before) (l .behind)) in
+      omega (arith, size-here, used-here, length-append (flat (l .before)) (flat (l .behind)))
+
+  -- it begins in the block
+  pub starts-within : e .start < base + 512
+  unfolding padded
+  starts-within = omega (arith, behind-within, end-within image base k)
+
   -- the later entries moved up, n bytes from place next, and z zeros behind them
   module _ (next n z : ℕ) (at : base + (length (flat (l .before)) + length (bytesAt image e)) ≡ next) (moved : n ≡ length (flat (l .behind)))
       (clear : z + (e .start + n) ≡ base + 512) where
@@ -229,3 +240,42 @@ paste-next m s c d x y h px py =
       take-all (length d) d (omega arith),
       take-all (length (c ++ d)) (c ++ d) (omega arith),
     ) (simp append-assoc)
+
+-- ---- a part stored within the block at byte base, n bytes from its place p on
+
+module _ (m : List ℕ) (base p n : ℕ) (g : List ℕ) (within : base + 512 ≤ length m) (fits : p + n ≤ 512) (long : length g ≡ n) where
+  abbrev stored : List ℕ
+  stored = take p (part base 512 m) ++ (g ++ drop (p + n) (part base 512 m))
+
+  block-long : length (part base 512 m) ≡ 512
+  block-long = length-take-le 512 (drop base m) (omega (arith, length-drop base m))
+
+  pub inside-full : length stored ≡ 512
+  inside-full =
+      length-append (take p (part base 512 m)) (g ++ drop (p + n) (part base 512 m))
+      ∙ omega (
+        arith,
+        block-long,
+        length-take-le p (part base 512 m) (omega (arith, block-long)),
+        length-append g (drop (p + n) (part base 512 m)),
+        length-drop (p + n) (part base 512 m),
+      )
+
+  stored-back : drop (p + n) (part base 512 m) ++ drop (base + 512) m ≡ drop (base + p + n) m
+  stored-back =
+      let k : 512 ≡ p + n + (512 - (p + n)) = omega arith in
+      let at : base + (p + n) ≡ base + p + n = omega arith in
+      let end : base + p + n + (512 - (p + n)) ≡ base + 512 = omega arith in
+      let front : drop (p + n) (part base 512 m) ≡ take (512 - (p + n)) (drop (base + p + n) m)
+      = ap (λ (j : ℕ). drop (p + n) (take j (drop base m))) k ∙ drop-take-add (p + n) (512 - (p + n)) (drop base m)
+      ∙ ap (take (512 - (p + n))) (drop-drop (p + n) base m ∙ ap (λ (j : ℕ). drop j m) at) in
+      let behind : drop (base + 512) m ≡ drop (512 - (p + n)) (drop (base + p + n) m)
+      = ap (λ (j : ℕ). drop j m) (sym end) ∙ sym (drop-drop (512 - (p + n)) (base + p + n) m) in
+      rw (front, behind) (take-append-drop (512 - (p + n)) (drop (base + p + n) m))
+
+  pub paste-inside : paste m base stored 512 ≡ paste m (base + p) g n
+  paste-inside =
+      let all = take-all 512 stored (omega (arith, inside-full)) in
+      let own = take-all n g (omega arith) in
+      let first = take-take p 512 (drop base m) (omega arith) in
+      rw (all, own, take-add base p m, first) (simp append-assoc (rw stored-back))

@@ -19,7 +19,7 @@ use Rattle.laws.proofs.Reorder.{none-behind, Alone}
 use Rattle.laws.proofs.Block.{Clean, rest, split, used-within, good-long, length-filled}
 use Rattle.laws.proofs.Blocks.{Cleans, cut-count, clean-parts, listing-append}
 use Rattle.laws.proofs.Kept.{both-named, on-named, named-keep}
-use Rattle.laws.proofs.Places.{map-unnamed, fills, rewritten-stores}
+use Rattle.laws.proofs.Places.{map-unnamed, fills, rewritten-bytes, rewritten-stores}
 use Rattle.laws.proofs.Entry.{place-high}
 use Rattle.laws.proofs.Image.{two-stores, one-block}
 use Rattle.laws.proofs.MapSteps.{forkWith}
@@ -28,6 +28,7 @@ use Rattle.directory.specs.declared.EntryAt.{EntryAt}
 use Rattle.model.specs.declared.LogicalBlock.{LogicalBlock}
 use Rattle.directory.specs.Cursor.{blockOf, bytesAt, Begins, Comes, Lies}
 use Rattle.entries.specs.Blocks.{Block, Removes}
+use Rattle.entries.proofs.Blocks.{inside-full, paste-inside}
 use Rattle.entries.proofs.Stored.{fields}
 
 -- the directory's reading comes to its first entry
@@ -55,6 +56,19 @@ cut-at (suc i) (suc k) c h =
     let n : k - (i + 1) ≡ suc k - (suc i + 1) = omega arith in
     ap (λ (t : List (List ℕ)). take 512 c ∷ t)
     (cut-at i k (drop 512 c) (omega arith) ∙ rw (drop-drop (512 * i) 512 c, drop-drop (512 * (i + 1)) 512 c, a, b, n))
+
+-- an entry of several blocks, counted in its own block alone
+unfoldable pub lies-alone : (image : List ℕ) (base blocks : ℕ) (e : EntryAt) (l : Lies image base blocks e) → Lies image (base + 512 * l .index) 1 e
+lies-alone image base blocks e l =
+    let same : base + 512 * l .index ≡ base + 512 * l .index + 512 * 0 = omega arith in
+    record {
+      index = 0;
+      before = l .before;
+      behind = l .behind;
+      within = omega arith;
+      split = ap (λ (p : ℕ). entries (part p 512 image)) (sym same) ∙ l .split;
+      place = omega (arith, l .place);
+    }
 
 -- ---- a block that has not the name stays
 
@@ -108,17 +122,8 @@ module _ (f : VolumeFacts) (image : List ℕ) (e : EntryAt) (l : Lies image (512
   start-is = omega (arith, ahead-count, l .place)
 
   -- counted in its own block alone
-  pub lies-block : Lies image (512 * dirStart f .0 + 512 * l .index) 1 e
-  lies-block =
-      let same : 512 * dirStart f .0 + 512 * l .index ≡ 512 * dirStart f .0 + 512 * l .index + 512 * 0 = omega arith in
-      record {
-        index = 0;
-        before = l .before;
-        behind = l .behind;
-        within = omega arith;
-        split = ap (λ (p : ℕ). entries (part p 512 image)) (sym same) ∙ l .split;
-        place = omega (arith, l .place);
-      }
+  abbrev pub lies-block : Lies image (512 * dirStart f .0 + 512 * l .index) 1 e
+  lies-block = lies-alone image (512 * dirStart f .0) (dirLength f) e l
 
   -- ---- no other entry has its name
 
@@ -229,6 +234,27 @@ module _ (f : VolumeFacts) (image : List ℕ) (e : EntryAt) (l : Lies image (512
           ∙ ap (λ (k : ℕ). sets (sets image k vs) (512 * (dirStart f .0 + length ahead) + (p + 46)) ws) first
           ∙ ap (λ (k : ℕ). sets (sets image (e .start + i) vs) k ws) second)
 
+      -- the entry with other bytes, as many
+      pub entry-rewritten : 512 * dirStart f .0 + 512 * dirLength f ≤ length image → (g : List ℕ → List ℕ) (n : ℕ)
+          → length (bytesAt image e) ≡ n → length (g (bytesAt image e)) ≡ n
+          → withDirectory f image (rewritten name g (directoryBlocks f image)) ≡ paste image (e .start) (g (bytesAt image e)) n
+      entry-rewritten within g n size same =
+          let p = length (flat (l .before)) in
+          let base = 512 * dirStart f .0 + 512 * l .index in
+          let at : 512 * (dirStart f .0 + length ahead) ≡ base = omega (arith, ahead-count) in
+          let room : base + 512 ≤ length image = omega (arith, l .within) in
+          let fits : p + n ≤ 512 = omega (arith, entry-within) in
+          let block : rewrittenIn name g own ≡ take p own ++ (g (bytesAt image e) ++ drop (p + n) own)
+          = rewritten-bytes own own-clean (l .before) (bytesAt image e) (l .behind) (l .split) name g
+          (map-unnamed name g (l .before) none-before) (map-unnamed name g (l .behind) none-after)
+          ∙ (λ i. take p own ++ (on-named name g (bytesAt image e) has i ++ drop (p + size i) own)) in
+          let x = take p own ++ (g (bytesAt image e) ++ drop (p + n) own) in
+          ap (withDirectory f image) (rewritten-at g ∙ ap (λ (b : List ℕ). ahead ++ (b ∷ following)) block)
+          ∙ one-block f image within ahead own following blocks-are x (inside-full image base p n (g (bytesAt image e)) room fits same)
+          ∙ ap (λ (k : ℕ). paste image k x 512) at
+          ∙ paste-inside image base p n (g (bytesAt image e)) room fits same
+          ∙ ap (λ (k : ℕ). paste image k (g (bytesAt image e)) n) (sym (l .place))
+
       -- ---- delete
 
       -- the block, for the code
@@ -269,13 +295,12 @@ module _ (f : VolumeFacts) (image : List ℕ) (e : EntryAt) (l : Lies image (512
             own-removed,
           )
 
-      -- what the code leaves is the model's change
-      pub entry-removed : 512 * dirStart f .0 + 512 * dirLength f ≤ length image → (after : List ℕ)
-          → Removes image (512 * dirStart f .0 + 512 * l .index) e after
-          → after ≡ withDirectory f image (removed name (directoryBlocks f image))
-      unfolding lies-block
-      entry-removed within after r =
-          let at : 512 * dirStart f .0 + 512 * l .index ≡ 512 * (dirStart f .0 + length ahead) = omega (arith, ahead-count) in
+      -- the model's change is in that block
+      pub removed-paste : 512 * dirStart f .0 + 512 * dirLength f ≤ length image
+          → withDirectory f image (removed name (directoryBlocks f image))
+          ≡ paste image (512 * dirStart f .0 + 512 * l .index) (filled (l .before ++ l .behind)) 512
+      removed-paste within =
+          let at : 512 * (dirStart f .0 + length ahead) ≡ 512 * dirStart f .0 + 512 * l .index = omega (arith, ahead-count) in
           let short : length (flat (l .before ++ l .behind)) ≤ 512
           = omega (
             arith,
@@ -284,6 +309,13 @@ module _ (f : VolumeFacts) (image : List ℕ) (e : EntryAt) (l : Lies image (512
             length-append (flat (l .before)) (flat (l .behind)),
             ap (length {A = ℕ}) (flat-append (l .before) (l .behind)),
           ) in
-          r lies-block ∙ ap (λ (p : ℕ). paste image p (filled (l .before ++ l .behind)) 512) at
-          ∙ sym (ap (withDirectory f image) removed-at
-          ∙ one-block f image within ahead own following blocks-are (filled (l .before ++ l .behind)) (length-filled (l .before ++ l .behind) short))
+          ap (withDirectory f image) removed-at
+          ∙ one-block f image within ahead own following blocks-are (filled (l .before ++ l .behind)) (length-filled (l .before ++ l .behind) short)
+          ∙ ap (λ (p : ℕ). paste image p (filled (l .before ++ l .behind)) 512) at
+
+      -- what the code leaves is that change
+      pub entry-removed : 512 * dirStart f .0 + 512 * dirLength f ≤ length image → (after : List ℕ)
+          → Removes image (512 * dirStart f .0 + 512 * l .index) e after
+          → after ≡ withDirectory f image (removed name (directoryBlocks f image))
+      unfolding lies-alone
+      entry-removed within after r = r lies-block ∙ sym (removed-paste within)

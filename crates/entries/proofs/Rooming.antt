@@ -6,7 +6,7 @@ use mathlib.Core.List.{List, [], _∷_, _++_}
 use native.Mathlib.Omega.{arith}
 use lib.ListN.{length, take, drop}
 use lib.Seq.{paste, drop-drop, take-take, take-all}
-use borrow.Author.Tests.{not-false, le-leb, lt-leb}
+use borrow.Author.Tests.{not-false, leb-true, le-leb, lt-leb}
 use Rattle.model.specs.Lists.{every, any, flat}
 use Rattle.model.specs.Bytes.{zeros, part}
 use Rattle.model.specs.Facts.{dirStart, dirLength}
@@ -15,14 +15,16 @@ use Rattle.model.specs.Check.{goodEntry, fires6}
 use Rattle.model.specs.Calls.{filled, hasRoom, placed, withDirectory}
 use Rattle.model.specs.declared.VolumeFacts.{VolumeFacts}
 use Rattle.model.proofs.Lists.{and-true, any-append, every-append}
-use Rattle.laws.proofs.Block.{sound, added-reads}
+use Rattle.laws.proofs.Block.{sound, Clean, added-reads}
 use Rattle.laws.proofs.Blocks.{Cleans, cut-count, clean-parts, listing-append}
 use Rattle.laws.proofs.Places.{placed-at, added-bytes}
 use Rattle.laws.proofs.Image.{one-block}
 use Rattle.directory.specs.declared.Cursor.{Cursor}
 use Rattle.directory.specs.Cursor.{blockOf, restOf, Passes}
 use Rattle.entries.specs.Blocks.{Block}
-use Rattle.entries.specs.Rooms.{HasRoom}
+use Rattle.entries.specs.Rooms.{HasRoom, Roomy}
+use Rattle.entries.specs.declared.Space.{Space}
+use Rattle.entries.specs.declared.Space.the-variants.{At, Nothing}
 use Rattle.entries.proofs.Blocks.{block-clean, cleared-behind}
 use Rattle.entries.proofs.Located.{cut-at}
 
@@ -96,22 +98,67 @@ added-stores image base k e room s z hs hz x y px py =
     ∙ cleared-behind image base s (length e) z e (omega arith) (omega arith) (omega arith) (omega arith)
     ∙ ap (λ (t : List ℕ). paste image base t 512) (sym whole)
 
+-- ---- the room found
+
+-- what the search finds, by its case
+module _ (image : List ℕ) (first left size : ℕ) (s : Space) (h : Roomy image first left size s) where
+  pub room-at : (base end : ℕ) → s ≡ At base end → HasRoom image first left size base end
+  room-at base end p = rw p at h
+
+  pub room-none : s ≡ Nothing → any (hasRoom size) (cutBlocks (left + 1) (drop first image)) ≡ false
+  room-none p = rw p at h
+
+-- of all directory blocks
+pub no-room : (f : VolumeFacts) (image : List ℕ) (left size : ℕ) → left + 1 ≡ dirLength f
+    → any (hasRoom size) (cutBlocks (left + 1) (drop (512 * dirStart f .0) image)) ≡ false → any (hasRoom size) (directoryBlocks f image) ≡ false
+unfolding directoryBlocks
+no-room f image left size n h = ap (λ (k : ℕ). any (hasRoom size) (cutBlocks k (drop (512 * dirStart f .0) image))) (sym n) ∙ h
+
+module _ (f : VolumeFacts) (image : List ℕ) (left size base end : ℕ) (n : left + 1 ≡ dirLength f)
+    (r : HasRoom image (512 * dirStart f .0) left size base end) where
+  -- the blocks before it and behind it
+  abbrev fuller : List (List ℕ)
+  fuller = cutBlocks (r .index) (drop (512 * dirStart f .0) image)
+
+  abbrev others : List (List ℕ)
+  others = cutBlocks (dirLength f - (r .index + 1)) (drop (512 * (r .index + 1)) (drop (512 * dirStart f .0) image))
+
+  room-whole : directoryBlocks f image ≡ fuller ++ (part base 512 image ∷ others)
+  unfolding directoryBlocks
+  room-whole =
+      let d = drop (512 * dirStart f .0) image in
+      let own : part (512 * r .index) 512 d ≡ part base 512 image =
+      ap (take 512) (drop-drop (512 * r .index) (512 * dirStart f .0) image) ∙ ap (λ (p : ℕ). part p 512 image) (sym (r .block)) in
+      cut-at (r .index) (dirLength f) d (omega (arith, r .within)) ∙ ap (λ (t : List ℕ). fuller ++ (t ∷ others)) own
+
+  pub some-room : any (hasRoom size) (directoryBlocks f image) ≡ true
+  unfolding any
+  some-room = ap (any (hasRoom size)) room-whole ∙ any-append (hasRoom size) fuller (part base 512 image ∷ others) ∙ rw (r .none, r .room)
+
+  pub room-within : end + size ≤ 512
+  unfolding hasRoom
+  room-within = omega (arith, leb-true (readEnd (part base 512 image) + size) 512 (r .room), r .ends)
+
+  module _ (within : 512 * dirStart f .0 + 512 * dirLength f ≤ length image) (clean : Cleans (directoryBlocks f image)) where
+    room-clean : Clean (part base 512 image)
+    unfolding Cleans
+    room-clean = clean-parts fuller (part base 512 image ∷ others) (rw room-whole at clean) .1 .0
+
+    pub room-block : Block image base
+    unfolding fires6
+    room-block = record { within = omega (arith, r .block, r .within); good = rw (room-clean .good) }
+
 -- the model's change is there
 pub room-placed : (f : VolumeFacts) (image : List ℕ) → 512 * dirStart f .0 + 512 * dirLength f ≤ length image → Cleans (directoryBlocks f image)
     → (e : List ℕ) → sound e ≡ true → (left base end : ℕ) → left + 1 ≡ dirLength f → HasRoom image (512 * dirStart f .0) left (length e) base end
     → withDirectory f image (placed e (directoryBlocks f image)) ≡ paste image base (filled (entries (part base 512 image) ++ (e ∷ []))) 512
-unfolding directoryBlocks Cleans
 room-placed f image within clean e so left base end n r =
-    let d = drop (512 * dirStart f .0) image in
-    let x = cutBlocks (r .index) d in
+    let x = fuller f image left (length e) base end n r in
     let b = part base 512 image in
-    let y = cutBlocks (dirLength f - (r .index + 1)) (drop (512 * (r .index + 1)) d) in
-    let own : part (512 * r .index) 512 d ≡ b =
-    ap (take 512) (drop-drop (512 * r .index) (512 * dirStart f .0) image) ∙ ap (λ (p : ℕ). part p 512 image) (sym (r .block)) in
-    let whole : directoryBlocks f image ≡ x ++ (b ∷ y) = cut-at (r .index) (dirLength f) d (omega (arith, r .within)) ∙ ap (λ (t : List ℕ). x ++ (t ∷ y)) own in
-    let parts : Cleans (x ++ (b ∷ y)) = rw whole at clean in
-    let long = added-reads e b (clean-parts x (b ∷ y) parts .1 .0) so (r .room) .clean .long in
-    let at : 512 * (dirStart f .0 + length x) ≡ base = omega (arith, cut-count (r .index) d, r .block) in
+    let y = others f image left (length e) base end n r in
+    let whole = room-whole f image left (length e) base end n r in
+    let long = added-reads e b (room-clean f image left (length e) base end n r within clean) so (r .room) .clean .long in
+    let at : 512 * (dirStart f .0 + length x) ≡ base = omega (arith, cut-count (r .index) (drop (512 * dirStart f .0) image), r .block) in
     ap (λ (bs : List (List ℕ)). withDirectory f image (placed e bs)) whole
     ∙ ap (withDirectory f image) (placed-at e x b y (r .none) (r .room))
     ∙ one-block f image within x b y whole (filled (entries b ++ (e ∷ []))) long

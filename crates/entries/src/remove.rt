@@ -1,4 +1,5 @@
-// An entry taken out of a directory block; where the block's reading ends, and zeros stored, which create asks for too.
+// An entry taken out of a directory block; where the block's reading ends, and zeros stored, which an entry put in and one renamed
+// ask for too.
 ghost use mathlib.Core.Path.{_≡_};
 ghost use Prim.Native.Nat.{_+_, _≤_};
 ghost use lib.ListN.{length, drop};
@@ -6,7 +7,7 @@ ghost use lib.Seq.{paste};
 ghost use Rattle.model.specs.Bytes.{zeros, part};
 ghost use Rattle.model.specs.Directory.{readEnd};
 ghost use Rattle.directory.specs.Cursor.{Stands, Lies};
-ghost use Rattle.entries.specs.Blocks.{Block, Removes};
+ghost use Rattle.entries.specs.Blocks.{Block, blockStart, Removes};
 use directory::Advance;
 use directory::Cursor;
 use directory::EntryAt;
@@ -58,15 +59,16 @@ pub fn clear(image: &mut [u8], at: usize, n: usize)
     }
 }
 
-// Takes the entry out of the directory block at byte base: the later entries move up, and zeros follow them.
-pub fn remove_entry(image: &mut [u8], base: usize, e: EntryAt)
-    requires { ⌜ Block (now image) base ⌝ }
+// Takes the entry out of its directory block: the later entries move up, and zeros follow them.
+pub fn remove_entry(image: &mut [u8], e: EntryAt)
+    requires { ⌜ Block (now image) (blockStart e) ⌝ }
     requires { ⌜ Stands (now image) e ⌝ }
-    requires { ⌜ Lies (now image) base 1 e ⌝ }
-    ensures { λ _. ⌜ Removes (now (image .entry)) base e (now (image .exit)) ⌝ }
+    requires { ⌜ Lies (now image) (blockStart e) 1 e ⌝ }
+    ensures { λ _. ⌜ Removes (now (image .entry)) (blockStart e) e (now (image .exit)) ⌝ }
 {
-    let end = base + read_end(image, base);
     let start = e.start;
+    let base = start - start % Cursor::BLOCK;
+    let end = base + read_end(image, base);
     let next = start + entry_size(e.name_length);
     let n = end - next;
     slide(image, start, next, n);

@@ -1,14 +1,15 @@
 -- Laws of the search in an accepted image's directory: the cursor at its first entry, what is found from there on, and what a
 -- name names.
 use Prim.Native.Nat.{ℕ, _*_, _≤_, _<_}
-use mathlib.Core.Path.{_≡_}
-use mathlib.Core.Bool.{true, false}
+use mathlib.Core.Path.{_≡_, refl}
+use mathlib.Core.Bool.{Bool, true, false, not}
 use mathlib.Core.List.{List}
 use native.Mathlib.Omega.{arith}
 use lib.ListN.{length}
 use Rattle.model.specs.Facts.{factsOf, dirStart, dirLength}
 use Rattle.model.specs.Lists.{any}
 use Rattle.model.specs.Directory.{directory, named}
+use Rattle.model.specs.Check.{orElse}
 use Rattle.model.specs.Calls.{badName}
 use Rattle.model.proofs.Check.{accepted-passes}
 use Rattle.directory.specs.Cursor.{restOf, Passes, Begins}
@@ -29,6 +30,14 @@ use Rattle.files.specs.Lookup.{Readable, NamedEntry, Missed, Names}
 -- a bad name
 pub missed-title : (image name : List ℕ) → badName name ≡ true → Missed image name 12
 missed-title image name h = record { fires = rw h; some = λ z. omega arith }
+
+-- a good name that names nothing: no file has it
+pub missed-none : {image name : List ℕ} {number : ℕ} → badName name ≡ false → Missed image name number → any (named name) (directory image) ≡ false
+missed-none {image} {name} {number} g m = go (any (named name) (directory image)) (rw g at (m .fires))
+  where
+    go : (t : Bool) → number ≡ orElse (not t) 13 0 → t ≡ false
+    go true h = absurd (m .some h)
+    go false h = refl
 
 -- what a name names, by its case
 module _ {image name : List ℕ} {n : Named} where

@@ -1,4 +1,4 @@
-// Names given to a call: 12, and 21 for the name of a new file.
+// Names given to a call: 12, and 21 for a new name.
 ghost use mathlib.Core.Path.{_≡_};
 ghost use Rattle.model.specs.Calls.{badName, tooLong};
 

@@ -107,3 +107,26 @@ pub fn delete(form: Form, image: &mut [u8]) -> bool {
     tell(image, b'D', number);
     true
 }
+
+// A wrapped file, too, is taken for a bare image.
+pub fn rename(image: &mut [u8]) -> bool {
+    let mut old = input::name_space();
+    let Field::Is(length) = input::name(&mut old) else {
+        return false;
+    };
+    let mut new = input::name_space();
+    let Field::Is(count) = input::name(&mut new) else {
+        return false;
+    };
+    let DateField::Is(changed) = input::date() else {
+        return false;
+    };
+    let number = volume::rename(
+        image,
+        text::first(&old, length as usize),
+        text::first(&new, count as usize),
+        changed,
+    );
+    tell(image, b'M', number);
+    true
+}

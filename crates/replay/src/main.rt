@@ -53,6 +53,7 @@ fn call(tag: u8, form: Form, image: &mut [u8]) -> bool {
         b'U' => changes::cut(form, image),
         b'D' => changes::delete(form, image),
         b'K' => calls::wrap(image),
+        b'M' => changes::rename(image),
         _ => {
             input::bad_record();
             false

@@ -7,7 +7,7 @@ use Rattle.model.specs.Bytes.{Bytes}
 use Rattle.model.specs.Directory.{noEntry}
 use Rattle.model.specs.Check.{verdict}
 use Rattle.model.specs.Calls.{Call, Does, Fits, checks, only, lent}
-use Rattle.model.specs.Calls.Call.{check, entry, find, block, read, create, write, cut, delete}
+use Rattle.model.specs.Calls.Call.{check, entry, find, block, read, create, write, cut, delete, rename}
 use Rattle.laws.proofs.Calls.{by-checks, does-refuse}
 use Rattle.model.specs.declared.DirectoryEntry.{DirectoryEntry}
 use Rattle.model.specs.declared.Fork.{Fork}
@@ -64,3 +64,7 @@ module _ {image : List ℕ} (r : CheckAnswer) (d : Does check image (toldCheck r
   pub delete-stopped : {name : List ℕ} → Bytes name → Does (delete name) image (toldNumber n) image
   unfolding Fits checks lent
   delete-stopped {name} letters = stop (delete name) letters refl
+
+  pub rename-stopped : {name new : List ℕ} {changed : ℕ} → Bytes name → Bytes new → changed < 2 ^ 32 → Does (rename name new changed) image (toldNumber n) image
+  unfolding Fits checks lent
+  rename-stopped {name} {new} {changed} letters fresh fits = stop (rename name new changed) (letters, fresh, fits) refl

@@ -5,7 +5,7 @@ use mathlib.Core.List.{List}
 use lib.ListN.{length, take, drop}
 use Rattle.model.specs.Check.{Accepted}
 use Rattle.model.specs.Calls.{Call, Answer, lent, Does}
-use Rattle.model.specs.Calls.Call.{check, entry, find, block, read, create, write, cut, delete, wrap}
+use Rattle.model.specs.Calls.Call.{check, entry, find, block, read, create, write, cut, delete, wrap, rename}
 use Rattle.history.specs.History.{History, Agrees, InStep}
 use Rattle.model.specs.Facts.{noFacts}
 use Rattle.model.specs.Directory.{noEntry}
@@ -17,9 +17,9 @@ use Rattle.files.specs.declared.BlockAnswer.{BlockAnswer}
 use Rattle.files.specs.declared.ReadAnswer.{ReadAnswer}
 use Rattle.volume.specs.declared.Outcome.{Outcome}
 use Rattle.volume.specs.declared.Wanted.{Wanted}
-use Rattle.volume.specs.declared.Wanted.the-variants.{Check, Entry, Find, Block, Read, Create, Write, Cut, Delete, Wrap}
+use Rattle.volume.specs.declared.Wanted.the-variants.{Check, Entry, Find, Block, Read, Create, Write, Cut, Delete, Wrap, Rename}
 
--- the call that is wanted, with what it needs of the arguments
+-- the call that is wanted, with what it needs of the arguments; a rename takes the bytes for the new name
 unfoldable pub callOf : Wanted → (name : List ℕ) → Fork → (place : ℕ) → (buffer finder bytes : List ℕ) → (created changed format : ℕ) → Call
 callOf Check name fork place buffer finder bytes created changed format = check
 callOf Entry name fork place buffer finder bytes created changed format = entry place
@@ -31,6 +31,7 @@ callOf Write name fork place buffer finder bytes created changed format = write 
 callOf Cut name fork place buffer finder bytes created changed format = cut name fork place changed
 callOf Delete name fork place buffer finder bytes created changed format = delete name
 callOf Wrap name fork place buffer finder bytes created changed format = wrap name format buffer
+callOf Rename name fork place buffer finder bytes created changed format = rename name bytes changed
 
 -- what any call gives back, as an answer of the model's; the buffer is the one lent, after it
 abbrev pub toldOutcome : Outcome → List ℕ → Answer

@@ -5,6 +5,7 @@ use crate::checking::check;
 use call_create::serve_create;
 use call_cut::serve_cut;
 use call_delete::serve_delete;
+use call_rename::serve_rename;
 use call_write::serve_write;
 use model::Fork;
 
@@ -58,4 +59,15 @@ pub fn delete(image: &mut [u8], name: &[u8]) -> u8
         return checked.number;
     }
     serve_delete(image, checked.facts, name)
+}
+
+// Gives a file another name and change date.
+pub fn rename(image: &mut [u8], name: &[u8], new: &[u8], changed: u32) -> u8
+    ensures { λ r. ⌜ Does (Call.rename (now (name .entry)) (now (new .entry)) changed) (now (image .entry)) (toldNumber r) (now (image .exit)) ⌝ }
+{
+    let checked = check(image);
+    if checked.number != 0 {
+        return checked.number;
+    }
+    serve_rename(image, checked.facts, name, new, changed)
 }

@@ -16,6 +16,7 @@ pub use answer_of::of_read;
 pub use changing::create;
 pub use changing::cut;
 pub use changing::delete;
+pub use changing::rename;
 pub use changing::write;
 pub use checking::check;
 pub use making::make_call;
@@ -50,4 +51,5 @@ pub enum Wanted {
     Cut,
     Delete,
     Wrap,
+    Rename,
 }

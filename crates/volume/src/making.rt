@@ -11,6 +11,7 @@ use crate::answer_of::of_read;
 use crate::changing::create;
 use crate::changing::cut;
 use crate::changing::delete;
+use crate::changing::rename;
 use crate::changing::write;
 use crate::checking::check;
 use crate::reading::block;
@@ -20,7 +21,8 @@ use crate::reading::read;
 use crate::wrapping::wrap;
 use model::Fork;
 
-// Makes the call that is wanted with what it needs of all this, and gives back what that call gives.
+// Makes the call that is wanted with what it needs of all this, and gives back what that call gives. A rename takes the bytes for the
+// new name.
 pub fn make_call(
     image: &mut [u8],
     wanted: Wanted,
@@ -47,5 +49,6 @@ pub fn make_call(
         Wanted::Cut => of_number(cut(image, name, fork, place, changed)),
         Wanted::Delete => of_number(delete(image, name)),
         Wanted::Wrap => of_number(wrap(image, name, format, buffer)),
+        Wanted::Rename => of_number(rename(image, name, bytes, changed)),
     }
 }

@@ -48,5 +48,6 @@ pub fn make_call(
         Wanted::Cut => of_number(cut(file, name, fork, place, changed)),
         Wanted::Delete => of_number(delete(file, name)),
         Wanted::Wrap => of_number(volume::wrap(file, name, format, buffer)),
+        Wanted::Rename => of_number(volume::rename(file, name, bytes, changed)),
     }
 }

@@ -12,7 +12,8 @@ use Rattle.model.specs.Calls.Call.{create}
 use Rattle.call_create.specs.Adding.{Adds}
 use Rattle.files.proofs.Octets.{octets}
 use Rattle.files.proofs.Lookups.{some-block, first-passes, names-file, names-none}
-use Rattle.call_create.proofs.Creates.{adds, room-at, room-none, Short, Fresh, fresh, fresh-title}
+use Rattle.entries.proofs.Rooming.{room-at, room-none}
+use Rattle.call_create.proofs.Creates.{adds, Short, Fresh, fresh, fresh-title}
 use Rattle.call_create.proofs.Creates.{create-locked, create-untitled, create-long, create-exists, create-last, create-full, create-served}
 use borrow.Author.Needs.{needs}
 use Rattle.call_create.proofs.create.serve_create.Statement.{statement}

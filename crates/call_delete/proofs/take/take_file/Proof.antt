@@ -1,5 +1,5 @@
 -- `take_file` meets its contract. Assumes nothing.
-use Prim.Native.Nat.{ℕ, _+_, _/_, _%_, _≤_}
+use Prim.Native.Nat.{ℕ, _+_, _/_, _≤_}
 use mathlib.Core.Path.{_≡_, _∙_}
 use native.Mathlib.Omega.{arith}
 use mir.Syntax.{w16}
@@ -28,9 +28,6 @@ two-fit p q r h = omega arith
 
 all-fit : (p q r : ℕ) → p + q + r ≤ 640 → Fits w16 (p + q + r)
 all-fit p q r h = omega arith
-
-rest-below : (n : ℕ) → n % 512 ≤ n
-rest-below n = omega arith
 
 still-long : (n m : ℕ) → n ≡ m → 2048 ≤ m → 2048 ≤ n
 still-long n m e h = omega arith
@@ -122,11 +119,8 @@ free-chain-requires-2 c κs =
       resource-runs (s .pre) (a .read-fork .result) (b .read-fork2 .result) (a .read-fork .ensures) (b .read-fork2 .ensures) _ (data-freed x),
     )
 
-sub-base : tie.Need-sub-base
-sub-base c = rest-below _
-
 abbrev second : tie.After-remove-entry-arg → tie.After-free-chain2
-second c = c .before .before .before .before .before
+second c = c .before .before .before
 
 remove-entry-requires : tie.Need-remove-entry-requires
 remove-entry-requires c κs =
@@ -146,7 +140,7 @@ remove-entry-requires c κs =
 -- ---- behind the entry
 
 -- it was taken out, at the store of the number of files
-module _ (c : tie.After-struct-known3) where
+module _ (c : tie.After-struct-known) where
   abbrev taken : tie.After-remove-entry
   taken = c .before .before .before .before
 
@@ -165,11 +159,11 @@ put-files-requires c κs =
     (long-image (start (forks (counts (freed c))) .pre .readable))
 
 -- at the last store
-module _ (c : tie.After-struct-known4) where
+module _ (c : tie.After-struct-known2) where
   abbrev files : tie.After-put-files
   files = c .before .before .before .before
 
-  abbrev at-files : tie.After-struct-known3
+  abbrev at-files : tie.After-struct-known
   at-files = files .before
 
   free-is : let k = counts (freed at-files) in let f = start (forks k) .args .f in
@@ -220,7 +214,6 @@ take-file-spec =
     cast-in-resource
     free-chain-requires
     free-chain-requires-2
-    sub-base
     remove-entry-requires
     sub-put-files
     put-files-requires

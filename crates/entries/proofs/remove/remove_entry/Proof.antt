@@ -1,7 +1,8 @@
 -- `remove_entry` meets its contract. Assumes nothing.
-use Prim.Native.Nat.{_+_, _-_, _≤_}
+use Prim.Native.Nat.{ℕ, _+_, _-_, _≤_}
 use native.Mathlib.Omega.{arith}
 use denote.Ref.{now}
+use Rattle.entries.specs.Blocks.{blockStart}
 use Rattle.entries.proofs.Blocks.{behind-within, removed-stores}
 use borrow.Author.Needs.{needs}
 use Rattle.entries.proofs.remove.remove_entry.Statement.{statement}
@@ -17,16 +18,23 @@ sized c = c .before .before
 abbrev slid : tie.After-clear-arg → tie.After-slide
 slid c = c .before .before .before
 
+-- where its block starts
+abbrev base : tie.Start → ℕ
+base s = blockStart (s .args .e)
+
 -- the entry ends within the block's reading
-within : (c : tie.After-entry-size) → start c .args .e .start + c .entry-size .result ≤ start c .args .base + c .before .read-end .result
+within : (c : tie.After-entry-size) → start c .args .e .start + c .entry-size .result ≤ base (start c) + c .before .read-end .result
 within c =
     let s = start c in
     omega (
       arith,
       c .entry-size .ensures,
       c .before .read-end .ensures .0,
-      behind-within (now (s .args .image)) (s .args .base) (s .args .e) (s .pre .0) (s .pre .1 .0) (s .pre .1 .1),
+      behind-within (now (s .args .image)) (base s) (s .args .e) (s .pre .0) (s .pre .1 .0) (s .pre .1 .1),
     )
+
+sub-base : tie.Need-sub-base
+sub-base c = search needs
 
 read-end-requires : tie.Need-read-end-requires
 read-end-requires c κs = search needs
@@ -73,9 +81,9 @@ returns c =
     let s = start size in
     let a = s .args in
     let next = a .e .start + size .entry-size .result in
-    let n = a .base + size .before .read-end .result - next in
-    let z = a .base + 512 - (a .e .start + n) in
-    λ l. removed-stores (now (a .image)) (a .base) (a .e) (s .pre .0) (s .pre .1 .0) l next n z
+    let n = base s + size .before .read-end .result - next in
+    let z = base s + 512 - (a .e .start + n) in
+    λ l. removed-stores (now (a .image)) (base s) (a .e) (s .pre .0) (s .pre .1 .0) l next n z
     (omega (arith, size .entry-size .ensures)) (omega (arith, size .before .read-end .ensures .0)) (omega arith)
     _ _ (slide .slide .ensures) (clear .clear .ensures)
 
@@ -83,6 +91,7 @@ pub remove-entry-spec : {M : Type 1} → statement M
 remove-entry-spec =
     tie.close
     (tie.spec
+    sub-base
     read-end-requires
     add-end
     entry-size-requires
