@@ -6,8 +6,8 @@
  * safe. No call keeps anything from one call to the next, allocates memory or opens a file.
  *
  * A wrapped file is a Disk Copy 4.2 file of a 400K disk: a header, the image, and the disk's tags where it has them. Each call
- * on an image has a second one whose name begins with mfs_wrapped_: it takes the whole file in the image's place and does the
- * same with the image inside. mfs_wrap makes a wrapped file of an image.
+ * on an image but mfs_rename and mfs_wrap has a second one whose name begins with mfs_wrapped_: it takes the whole file in the
+ * image's place and does the same with the image inside. mfs_wrap makes a wrapped file of an image.
  *
  * Names are bytes in Mac OS Roman, with no zero at their end. Two are equal where their bytes are: letters a to z equal A to Z,
  * and the two bytes of each of these pairs, in hex, equal each other: 88 CB, 8A 80, 8B CC, 8C 81, 8D 82, 8E 83, 96 84, 9A 85,
@@ -62,11 +62,11 @@ enum {
     MFS_BAD_FREE_COUNT = 10,
     /* the volume is locked */
     MFS_VOLUME_LOCKED = 11,
-    /* the given name's length is 0 or above 255 */
+    /* a given name's length is 0 or above 255 */
     MFS_BAD_NAME = 12,
     /* no such file or place */
     MFS_NOT_FOUND = 13,
-    /* the name exists */
+    /* the name exists; from mfs_rename, another file has the new one */
     MFS_NAME_EXISTS = 14,
     /* the file is locked */
     MFS_FILE_LOCKED = 15,
@@ -78,7 +78,7 @@ enum {
     MFS_DIRECTORY_FULL = 18,
     /* the next file number is 4,294,967,295: no file can be created any more */
     MFS_NO_FILE_NUMBER = 19,
-    /* the given name is longer than 31 bytes, which no new file may have; there is no 20 */
+    /* the new name is longer than 31 bytes: that of mfs_create, or the second one of mfs_rename; there is no 20 */
     MFS_NAME_TOO_LONG = 21,
     /* the wrapped file has another length, or another header, than a Disk Copy 4.2 file of a 400K disk; from mfs_wrap: the
        image, the buffer or the name has a wrong length */
@@ -191,7 +191,7 @@ mfs_read_answer mfs_read(const uint8_t *image, size_t image_length, const uint8_
 
 /*
  * Creates an empty file with this name, these 16 bytes of Finder information and these dates. The name has at most 31 bytes; a
- * file that is there may have a longer one, and every other call that is given a name takes it.
+ * file that is there may have a longer one, by which every other call finds it.
  * Refusals: 1 to 10, 11, 12, 21, 14, 19, 18.
  */
 uint8_t mfs_create(uint8_t *image, size_t image_length, const uint8_t *name, size_t name_length, const uint8_t finder[16],
@@ -216,10 +216,21 @@ uint8_t mfs_cut(uint8_t *image, size_t image_length, const uint8_t *name, size_t
 uint8_t mfs_delete(uint8_t *image, size_t image_length, const uint8_t *name, size_t name_length);
 
 /*
- * The same calls on a wrapped file. Its length is MFS_WRAPPED_LENGTH or MFS_WRAPPED_TAGGED_LENGTH. The header has 84 bytes,
- * with big-endian numbers: the name, of at most 63 bytes behind its length byte; at 64 the data size, 409,600; at 68 the tag
- * size, 0 or 9,600; at 72 the data checksum and at 76 the tag checksum; at 80 the encoding, 0; at 81 the format byte; at 82
- * the two bytes 01 00. The image follows, then the tags.
+ * Gives a file a new name, of at most 31 bytes, and stores the change date; all else that is told of the file stays. The new
+ * name is no other file's; the file's own in another case will do. An entry takes 51 bytes and its name, made even. Where that
+ * size stays, the entry stays, and no other byte of the image changes; else it is taken out and goes behind the last one of the
+ * first directory block with room once it is out, so that places of files may change.
+ * Only images are taken: 1 refuses a wrapped file.
+ * Refusals: 1 to 10, 11, 12 for the name, 12 and 21 for the new one, 13, 15, 14 for another file's name, 18.
+ */
+uint8_t mfs_rename(uint8_t *image, size_t image_length, const uint8_t *name, size_t name_length, const uint8_t *new_name,
+                   size_t new_name_length, uint32_t changed);
+
+/*
+ * The same calls, but mfs_rename, on a wrapped file. Its length is MFS_WRAPPED_LENGTH or MFS_WRAPPED_TAGGED_LENGTH. The header
+ * has 84 bytes, with big-endian numbers: the name, of at most 63 bytes behind its length byte; at 64 the data size, 409,600; at
+ * 68 the tag size, 0 or 9,600; at 72 the data checksum and at 76 the tag checksum; at 80 the encoding, 0; at 81 the format
+ * byte; at 82 the two bytes 01 00. The image follows, then the tags.
  *
  * A checksum is a 32-bit number, from 0 on: each 16-bit word is added, and the sum is then turned right by one bit. That of the
  * tags leaves out their first 12 bytes, and is 0 where there are none.

@@ -1,6 +1,6 @@
 /*
  * The calls of the archive on known answers: document 01's disk HALL, its P cases, and each number that a call can give. Each
- * test is made on the image by itself and on it in wrapped files. Then the tests of wrapped.c.
+ * test is made on the image by itself and on it in wrapped files. Then the tests of rename.c and wrapped.c.
  * usage: calls HALL-IMAGE. A line for each test; exit status 1 where one fails.
  */
 #include "support.h"
@@ -701,5 +701,6 @@ int main(int argc, char **argv)
     memset(letters, 'n', sizeof letters);
     failed = run_tests(tests, sizeof tests / sizeof tests[0], forms, 3);
     failed |= run_tests(only_bare, sizeof only_bare / sizeof only_bare[0], forms, 1);
+    failed |= test_rename();
     return test_wrapped() || failed;
 }

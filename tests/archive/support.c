@@ -197,6 +197,11 @@ void refuses_delete(size_t length, const uint8_t *name, size_t size, uint8_t num
     EXPECT(form->call.delete(LENT(length), name, size) == number && unchanged(length));
 }
 
+void refuses_rename(size_t length, const uint8_t *name, size_t size, const uint8_t *new_name, size_t new_size, uint8_t number)
+{
+    EXPECT(mfs_rename(LENT(length), name, size, new_name, new_size, 5) == number && unchanged(length));
+}
+
 void each_refuses(size_t length, uint8_t number)
 {
     memcpy(wanted, lent, lent_length(length));
@@ -210,6 +215,10 @@ void each_refuses(size_t length, uint8_t number)
     refuses_write(length, WEEK1, 0, number);
     refuses_cut(length, WEEK1, 0, number);
     refuses_delete(length, WEEK1, number);
+    if (!is_wrapped()) {
+        refuses_rename(length, WEEK1, THIRD, number);
+        refuses_rename(length, letters, 0, letters, 32, number);
+    }
 }
 
 /* ---- running */

@@ -105,13 +105,17 @@ void refuses_write(size_t length, const uint8_t *name, size_t size, uint64_t off
 void refuses_cut(size_t length, const uint8_t *name, size_t size, uint64_t to, uint8_t number);
 void refuses_delete(size_t length, const uint8_t *name, size_t size, uint8_t number);
 
-/* Every call refuses what is lent as it is. */
+/* The same of mfs_rename, which takes what is lent for an image, wrapped or not. */
+void refuses_rename(size_t length, const uint8_t *name, size_t size, const uint8_t *new_name, size_t new_size, uint8_t number);
+
+/* Every call refuses what is lent as it is, mfs_rename where that is no wrapped file. */
 void each_refuses(size_t length, uint8_t number);
 
 /* Runs each test in these forms, and prints a line for it. Gives 1 where one fails. */
 int run_tests(const struct test *tests, size_t count, const struct form *const *forms, size_t form_count);
 
-/* The tests of wrapped.c. */
+/* The tests of rename.c and of wrapped.c. */
+int test_rename(void);
 int test_wrapped(void);
 
 #endif

@@ -142,7 +142,8 @@ class Case(unittest.TestCase):
         return ran
 
     def all_refuse(self, number, *options):
-        """Every verb refuses the image by this number."""
+        """Every verb refuses the image by this number; rename, which takes
+        only bare images, by that of a bare one."""
         self.assertEqual(
             self.refused(number, 'check', *options, self.image).out, b'')
         for args in ((), ('-l',)):
@@ -156,6 +157,9 @@ class Case(unittest.TestCase):
                      ('delete', self.image, 'A')):
             ran = self.refused(number, *args, *options)
             self.assertEqual(ran.out, b'')
+        bare = volume.rename(bytearray(self.read()), b'A', b'B', 1)
+        ran = self.refused(bare, 'rename', '--date=@1', self.image, 'A', 'B')
+        self.assertEqual(ran.out, b'')
         for args in (('info',), ('list',)):
             ran = self.refused(number, *args, '--json', *options, self.image)
             told = json.loads(ran.out)

@@ -1,5 +1,5 @@
-"""put, append, cut and delete against the second program: the whole image
-after each command, and the number of each refusal."""
+"""put, append, cut, delete and rename against the second program: the whole
+image after each command, and the number of each refusal."""
 
 import collections
 import os
@@ -39,8 +39,30 @@ def delete(image, names):
     return [n for n in numbers if n], image if any(numbers) else copy
 
 
+def rename(image, name, new, date):
+    copy = bytearray(image)
+    return volume.rename(copy, name, new, date), copy
+
+
+def new_name(rng, state, name):
+    """A name for a file of this name: its own in any case, that of another
+    file, one about as long, or any."""
+    kind = rng.randrange(6)
+    if kind == 0:
+        return maker.other_case(rng, name)
+    if kind == 1:
+        return generate.chooser.name_for(rng, state, 0.9)[0]
+    if kind < 4:
+        return maker.any_name(rng, max(0, len(name) + rng.randint(-2, 2)))
+    return maker.any_name(rng, rng.choice((
+        1, 30, 31, 32, rng.randint(1, 40), rng.randint(1, 40))))
+
+
 class Commands(Case):
     """Commands that are compared with the second program."""
+
+    verbs = ('put', 'put', 'append', 'append', 'cut', 'delete', 'rename',
+             'rename')
 
     def compare(self, wanted, *args, stdin=b''):
         """Runs a command; the image and the refusals must be as wanted."""
@@ -72,7 +94,7 @@ class Commands(Case):
         room = state.free * state.block_size
         data = maker.some_bytes(rng, rng.choice((
             0, 1, rng.randint(0, 700), rng.randint(0, 3000), room, room + 1)))
-        verb = rng.choice(('put', 'put', 'append', 'append', 'cut', 'delete'))
+        verb = rng.choice(self.verbs)
         rest = [self.image, as_text(name)]
         if verb == 'put':
             kind = bytes(rng.randrange(256) for _ in range(8))
@@ -88,6 +110,11 @@ class Commands(Case):
             length = generate.chooser.some_offset(rng, state, logical)
             wanted = cut(image, name, fork, length, date)
             rest.append(str(length))
+        elif verb == 'rename':
+            new = new_name(rng, state, name)
+            wanted = rename(image, name, new, date)
+            options = options[fork:]
+            rest.append(as_text(new))
         else:
             names = [name] + rng.sample(state.names, min(
                 len(state.names), rng.choice((0, 0, 0, 1, 2))))
@@ -105,12 +132,13 @@ class Changing(Commands):
             m = generate.small_volume(rng, i)
             image = m.image()
             self.write(image)
-            for _ in range(12):
+            for _ in range(16):
                 image = self.some_command(rng, image)
         for verb, numbers in (('put', (0, 11, 12, 15, 17, 18, 19, 21)),
                               ('append', (0, 11, 12, 13, 15, 17)),
                               ('cut', (0, 11, 12, 13, 15, 16)),
-                              ('delete', (0, 11, 12, 13, 15))):
+                              ('delete', (0, 11, 12, 13, 15)),
+                              ('rename', (0, 11, 12, 13, 14, 15, 18, 21))):
             for number in numbers:
                 self.assertGreater(self.seen[verb, number], 0, (verb, number))
 
@@ -157,6 +185,8 @@ class Changing(Commands):
             self.compare((11, image), 'cut', '--date=@1', self.image, name,
                          '9999')
             self.compare((11, image), 'delete', self.image, name)
+            self.compare((11, image), 'rename', '--date=@1', self.image, name,
+                         name)
 
     def test_new_names(self):
         """A new name has at most 31 characters."""

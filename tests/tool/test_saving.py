@@ -148,7 +148,8 @@ class Saving(Case):
         before = os.stat(self.image)
         for line in (('append', '--date=@7', 'disk.img', 'none', '-'),
                      ('delete', 'disk.img', 'WEEK1', 'none'),
-                     ('cut', '--date=@7', 'disk.img', 'WEEK1', '701')):
+                     ('cut', '--date=@7', 'disk.img', 'WEEK1', '701'),
+                     ('rename', '--date=@7', 'disk.img', 'WEEK1', 'rates')):
             self.assertEqual(self.run_tool(*line).status, 1)
         after = os.stat(self.image)
         self.assertEqual((before.st_ino, before.st_mtime_ns),
@@ -170,7 +171,8 @@ class Saving(Case):
         first = Waiting(self, *APPEND)
         for line in (APPEND, ('delete', 'disk.img', 'WEEK1'),
                      ('put', '--as=A', '--date=@1', 'disk.img', '-'),
-                     ('cut', '--date=@1', 'disk.img', 'WEEK1', '0')):
+                     ('cut', '--date=@1', 'disk.img', 'WEEK1', '0'),
+                     ('rename', '--date=@1', 'disk.img', 'WEEK1', 'W')):
             self.assertIn('another mfs', self.failed(*line).err)
         # those that only read may go on
         self.assertEqual(self.done('list', 'disk.img'), hall.LISTING)

@@ -5,7 +5,7 @@ import os
 from support import Case, hall
 
 VERBS = ('check', 'list', 'info', 'map', 'get', 'put', 'append', 'cut',
-         'delete', 'wrap', 'unwrap', 'help')
+         'delete', 'rename', 'wrap', 'unwrap', 'help')
 
 
 class Usage(Case):
@@ -80,6 +80,19 @@ class Usage(Case):
                 ['delete'], ['delete', 'disk.img'],
                 ['delete', d, 'disk.img', 'WEEK1'],
                 ['delete', '-r', 'disk.img', 'WEEK1'],
+                ['rename'], ['rename', d, 'disk.img'],
+                ['rename', d, 'disk.img', 'WEEK1'],
+                ['rename', 'disk.img', 'WEEK1', 'WEEK2'],
+                ['rename', d, 'disk.img', 'WEEK1', 'WEEK2', 'WEEK3'],
+                ['rename', '-r', d, 'disk.img', 'WEEK1', 'WEEK2'],
+                ['rename', '--bare', d, 'disk.img', 'WEEK1', 'WEEK2'],
+                ['rename', '--wrapped', d, 'disk.img', 'WEEK1', 'WEEK2'],
+                ['rename', '--as', 'WEEK2', d, 'disk.img', 'WEEK1'],
+                ['rename', '--date=today', 'disk.img', 'WEEK1', 'WEEK2'],
+                ['rename', d, 'disk.img', 'WEEK1', 'A\\B'],
+                ['rename', d, 'disk.img', 'A\\B', 'WEEK2'],
+                ['rename', d, 'disk.img', 'WEEK1', '\u65e5'],
+                ['rename', d, 'disk.img', 'WEEK1', b'\xff'],
                 *([*line, '--wrapped', '--bare'] for line in (
                     ['check', 'disk.img'], ['list', 'disk.img'],
                     ['info', 'disk.img'], ['map', 'disk.img'],
@@ -117,7 +130,8 @@ class Usage(Case):
         """There is no default, and the error says why."""
         for line in (('put', 'disk.img', 'file'),
                      ('append', 'disk.img', 'WEEK1', 'file'),
-                     ('cut', 'disk.img', 'WEEK1', '1')):
+                     ('cut', 'disk.img', 'WEEK1', '1'),
+                     ('rename', 'disk.img', 'WEEK1', 'WEEK2')):
             ran = self.wrong(*line)
             self.assertIn('--date is missing', ran.err)
             self.assertIn("the desk's own clock", ran.err)
@@ -142,8 +156,10 @@ class Usage(Case):
             self.assertEqual(self.done(*line).decode(), all_verbs)
         for verb in VERBS:
             self.assertIn('mfs ' + verb, all_verbs)
-            self.assertIn('usage: mfs ' + verb,
-                          self.done('help', verb).decode())
+            told = self.done('help', verb).decode()
+            self.assertIn('usage: mfs ' + verb, told)
+            self.assertTrue(all(len(line) <= 80
+                                for line in told.split('\n')[1:]), verb)
         for verb in VERBS[:-1]:
             self.assertEqual(self.done(verb, '--help'),
                              self.done('help', verb))

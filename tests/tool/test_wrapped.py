@@ -1,5 +1,5 @@
-"""Wrapped files: every verb against the second program on the image inside,
-files that are refused, how they are told, wrap and unwrap."""
+"""Wrapped files: every verb that takes them against the second program on the
+image inside, files that are refused, how they are told, wrap and unwrap."""
 
 import json
 import os
@@ -108,6 +108,7 @@ class Reading(Case):
 class Changing(Commands):
     """The image is in a wrapped file whose other bytes are carried."""
 
+    verbs = ('put', 'put', 'append', 'append', 'cut', 'delete')
     tags = b''
 
     def write(self, data, name='disk.img'):
@@ -166,7 +167,8 @@ class Changing(Commands):
 class Refused(Case):
 
     def refuse(self, number, file, *options):
-        """Every verb refuses the file, and so does unwrap."""
+        """Every verb refuses the file by this number, and so does unwrap;
+        rename refuses it as an image."""
         self.write(file)
         self.all_refuse(number, *options)
         if '--bare' not in options:

@@ -46,17 +46,22 @@ pub enum Call {
     Cut(Bytes, u8, u64, u32),
     /// Name.
     Delete(Bytes),
+    /// Name, new name, date of change. It takes only bare images.
+    Rename(Bytes, Bytes, u32),
     /// Name, format byte, the buffer's length. It takes only bare images.
     Wrap(Bytes, u8, usize),
 }
 
-/// The calls' names, each at its kind.
-pub const KINDS: [&str; 10] = [
-    "check", "entry", "find", "block", "read", "create", "write", "cut", "delete", "wrap",
+/// The calls' names, each at its kind. The nine that take wrapped files too come first.
+pub const KINDS: [&str; 11] = [
+    "check", "entry", "find", "block", "read", "create", "write", "cut", "delete", "rename", "wrap",
 ];
 
+/// The kind of rename.
+pub const RENAME: usize = 9;
+
 /// The kind of wrap.
-pub const WRAP: usize = 9;
+pub const WRAP: usize = 10;
 
 impl Call {
     /// Which call it is.
@@ -71,6 +76,7 @@ impl Call {
             Call::Write(..) => 6,
             Call::Cut(..) => 7,
             Call::Delete(..) => 8,
+            Call::Rename(..) => RENAME,
             Call::Wrap(..) => WRAP,
         }
     }
@@ -89,6 +95,7 @@ impl Call {
             }
             Call::Cut(name, fork, size, changed) => baseline::cut(image, name, Fork::of(*fork), *size, *changed),
             Call::Delete(name) => baseline::delete(image, name),
+            Call::Rename(name, new, changed) => baseline::rename(image, name, new, *changed),
             _ => Ok(()),
         }
     }

@@ -82,6 +82,7 @@ impl Prepared<'_> {
             }
             Call::Cut(name, fork, size, changed) => foreign::cut(form, file, name, *fork, *size, *changed),
             Call::Delete(name) => foreign::delete(form, file, name),
+            Call::Rename(name, new, changed) => foreign::rename(file, name, new, *changed),
             Call::Wrap(name, format, _) => foreign::wrap(file, name, *format, buffer),
         }
     }
@@ -103,6 +104,7 @@ impl Prepared<'_> {
             Call::Create(..) | Call::Write(..) | Call::Cut(..) | Call::Delete(..) => {
                 number(form.change(file, |image| self.call.change(image)))
             }
+            Call::Rename(..) => number(self.call.change(file)),
             Call::Wrap(name, format, _) => number(baseline::wrap(file, name, *format, buffer)),
         }
     }
@@ -119,7 +121,8 @@ fn number<T>(result: Result<T, Refusal>) -> u8 {
 }
 
 /// The calls on an accepted volume, all on its last file: the whole data fork is read, written over, written anew after
-/// a cut to 0, and cut to half. Create has an image without that file. A 400K disk is wrapped too.
+/// a cut to 0, and cut to half. The file is renamed where its entry stays, and where it is taken out and put in again.
+/// Create has an image without that file. A 400K disk is wrapped too.
 fn calls_on(image: &[u8]) -> Vec<Measured> {
     let files = u64::from(get2(image, 1036));
     let last = baseline::entry(image, files - 1).expect("an accepted volume with a file");
@@ -148,6 +151,12 @@ fn calls_on(image: &[u8]) -> Vec<Measured> {
         Measured::new("write new", &emptied, write.clone()),
         Measured::new("cut", image, Call::Cut(named(), 0, half, 3)),
         Measured::new("delete", image, Call::Delete(named())),
+        Measured::new("rename", image, Call::Rename(named(), Bytes(b"NEW 1".to_vec()), 3)),
+        Measured::new(
+            "rename longer",
+            image,
+            Call::Rename(named(), Bytes(b"NEW 1234".to_vec()), 3),
+        ),
     ];
     if image.len() == DATA {
         calls.extend(wrapped_calls(image, read, write));

@@ -1,7 +1,7 @@
 //! MFS volumes, the first Macintosh file system, by the proved calls.
 //!
 //! A file is a run of bytes: an image, or an image wrapped as a Disk Copy 4.2 file. [`Volume`] says which, and has the
-//! calls of document 01, each on the file that it is given; what they answer and what they leave in the file is
+//! calls of document 01 and document 02's rename, each on the file that it is given; what they answer and what they leave in the file is
 //! proved, this library over them is tested. Names are bytes in Mac OS Roman, compared without the case of a to z and of
 //! à ä ã å ç é ñ ö õ ü æ ø œ; every other byte equals only itself, so that û and Û differ. Dates are seconds since
 //! 1 January 1904 by the clock of whoever wrote them.
@@ -228,6 +228,13 @@ impl Volume {
     /// Deletes a file of the volume.
     pub fn delete(self, file: &mut [u8], name: &[u8]) -> Result<(), Refusal> {
         Refusal::of(ffi::delete(self, file, name))
+    }
+
+    /// Gives a file of the volume a new name and this change date. The name has at most 31 bytes and is no other file's;
+    /// the file's own in another case will do. The file may get another place. The call takes only images, whatever
+    /// `self` says: it refuses a wrapped file by 1, for its length; [`unwrap`] it first.
+    pub fn rename(self, file: &mut [u8], name: &[u8], new: &[u8], changed: u32) -> Result<(), Refusal> {
+        Refusal::of(ffi::rename(file, name, new, changed))
     }
 }
 

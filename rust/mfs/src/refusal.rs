@@ -48,7 +48,7 @@ impl Refusal {
             17 => "the new blocks needed exceed those free",
             18 => "no directory block has room for the entry",
             19 => "the next file number is 4,294,967,295",
-            21 => "the given name is longer than 31, and no new file may have such a name",
+            21 => "the new name is longer than 31",
             22 => {
                 "the file's length or header is unlike that of a wrapped 400K disk; in wrapping, the image is not 409,600 \
                  bytes long or the name is longer than 63"

@@ -84,6 +84,22 @@ fn listed_pairs_are_one_name_and_near_misses_two() {
 }
 
 #[test]
+fn a_file_is_renamed_to_its_other_spelling() {
+    let mut image = water();
+    assert_eq!(created(Volume::Bare, &mut image, UPPER), 0);
+    for name in [LOWER, UPPER, UPPER] {
+        Volume::Bare.rename(&mut image, LOWER, name, DATE).unwrap();
+        assert_eq!(Volume::Bare.find(&image, UPPER).unwrap().1.name, name);
+    }
+    assert_eq!(
+        Volume::Bare
+            .rename(&mut image, b"Log", LOWER, DATE)
+            .map_err(Refusal::number),
+        Err(14)
+    );
+}
+
+#[test]
 fn both_spellings_on_one_disk_are_refused_by_7() {
     let mut image = water();
     let near = b"\x8Et\x8F";

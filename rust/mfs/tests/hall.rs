@@ -1,8 +1,9 @@
-//! The library on the disk HALL: the worked cases of document 01, refusals, and lengths of names and of the image.
+//! The library on the disk HALL: the worked cases of document 01, renames, refusals, and lengths of names and of the
+//! image.
 
 #![allow(clippy::unwrap_used, clippy::expect_used, clippy::indexing_slicing)]
 
-use mfs::{Fork, ForkFacts, Refusal, Volume};
+use mfs::{Entry, Fork, ForkFacts, Refusal, Volume};
 
 const DATE: u32 = 2_600_000_000;
 
@@ -226,6 +227,94 @@ fn old_names() {
     }
 }
 
+/// HALL with WEEK1's entry as it is after a rename to this name, of 4 or 5 bytes.
+fn hall_renamed(name: &[u8]) -> Vec<u8> {
+    let mut image = hall();
+    let entry = &mut image[2048..2048 + 56];
+    entry[46..50].copy_from_slice(&DATE.to_be_bytes());
+    entry[50] = name.len() as u8;
+    entry[51..].fill(0);
+    entry[51..51 + name.len()].copy_from_slice(name);
+    image
+}
+
+#[test]
+fn renames_in_place() {
+    for name in [&b"WEEK1"[..], b"wEEk1", b"WEEK2", b"Week", b"\x8E\0 \xFF"] {
+        let mut image = hall();
+        Volume::Bare.rename(&mut image, b"week1", name, DATE).unwrap();
+        assert_eq!(image, hall_renamed(name));
+    }
+}
+
+#[test]
+fn renames_that_move() {
+    let mut image = hall();
+    let rates = image[2048 + 56..2048 + 112].to_vec();
+    let before = Volume::Bare.find(&image, b"WEEK1").unwrap().1;
+    Volume::Bare.rename(&mut image, b"WEEK1", b"WEEK30 BAD", DATE).unwrap();
+    assert_eq!(image[2048..2048 + 56], rates);
+    assert!(image[2048 + 56 + 61..2560].iter().all(|&byte| byte == 0));
+    let (place, after) = Volume::Bare.find(&image, b"week30 bad").unwrap();
+    let wanted = Entry {
+        changed: DATE,
+        name: b"WEEK30 BAD".to_vec(),
+        ..before
+    };
+    assert_eq!((place, after), (1, wanted));
+    assert_eq!(blocks(&image, b"WEEK30 BAD"), [2, 4]);
+    assert_eq!(
+        Volume::Bare.find(&image, b"WEEK1").map_err(Refusal::number).err(),
+        Some(13)
+    );
+    Volume::Bare.rename(&mut image, b"WEEK30 BAD", b"W", DATE).unwrap();
+    Volume::Bare.rename(&mut image, b"RATES", b"R", DATE).unwrap();
+    let names: Vec<_> = Volume::Bare
+        .entries(&image)
+        .unwrap()
+        .into_iter()
+        .map(|entry| entry.name)
+        .collect();
+    assert_eq!(names, [b"W", b"R"]);
+}
+
+#[test]
+fn renames_refused() {
+    let long = [b'n'; 256];
+    for (name, new, number) in [
+        (&long[..0], &long[..0], 12),
+        (&long, &long[..32], 12),
+        (b"WEEK1", &long[..0], 12),
+        (b"none", &long, 12),
+        (b"none", &long[..32], 21),
+        (b"WEEK1", &long[..255], 21),
+        (b"none", b"RATES", 13),
+        (b"WEEK1", b"rates", 14),
+    ] {
+        assert_eq!(refused(|image| Volume::Bare.rename(image, name, new, DATE)), number);
+    }
+    let number = |mut image: Vec<u8>, name: &[u8], new: &[u8]| {
+        let before = image.clone();
+        let refusal = Volume::Bare.rename(&mut image, name, new, DATE).expect_err("a refusal");
+        assert_eq!(image, before);
+        refusal.number()
+    };
+    let mut locked = hall();
+    locked[2048] = 0x81;
+    assert_eq!(number(locked.clone(), b"WEEK1", b"RATES"), 15);
+    assert_eq!(number(locked.clone(), b"WEEK1", b"week1"), 15);
+    locked[1034] = 0x80;
+    assert_eq!(number(locked, b"", b""), 11);
+    // 12 bytes are left behind the fourth entry, and 68 without WEEK1
+    let mut full = hall_with(&[b'n'; 255]);
+    Volume::Bare.create(&mut full, &[b'f'; 31], &[0; 16], 1, 2).unwrap();
+    assert_eq!(number(full.clone(), &[b'n'; 255], &[b'N'; 255]), 21);
+    assert_eq!(number(full.clone(), b"WEEK1", &[b'F'; 31]), 14);
+    assert_eq!(number(full.clone(), b"WEEK1", &[b'w'; 18]), 18);
+    Volume::Bare.rename(&mut full, b"WEEK1", &[b'w'; 17], DATE).unwrap();
+    assert_eq!(Volume::Bare.find(&full, &[b'w'; 17]).unwrap().0, 3);
+}
+
 #[test]
 fn lengths_of_the_image() {
     for length in [0, 1, 511, 512, 3584, 4095, 6143, 65_536 * 512] {
@@ -233,6 +322,12 @@ fn lengths_of_the_image() {
         assert_eq!(Volume::Bare.check(&image).map_err(Refusal::number), Err(1));
         assert_eq!(
             Volume::Bare.delete(&mut image, b"WEEK1").map_err(Refusal::number),
+            Err(1)
+        );
+        assert_eq!(
+            Volume::Bare
+                .rename(&mut image, b"WEEK1", b"WEEK2", DATE)
+                .map_err(Refusal::number),
             Err(1)
         );
     }

@@ -136,6 +136,25 @@ fn changed_as_the_image_inside() {
     }
 }
 
+/// Rename takes only images: a wrapped file is one of a wrong length.
+#[test]
+fn not_renamed() {
+    for before in [wrapped(), tagged()] {
+        for on in [Volume::Bare, Volume::Wrapped] {
+            let mut file = before.clone();
+            let refusal = on.rename(&mut file, b"Log", b"Log 1", DATE).expect_err("a refusal");
+            assert_eq!((refusal.number(), &file), (1, &before));
+        }
+        let mut image = unwrap(&before).unwrap().to_vec();
+        let mut other = image.clone();
+        Volume::Bare.rename(&mut image, b"log", b"Log 1", DATE).unwrap();
+        Volume::Wrapped.rename(&mut other, b"log", b"Log 1", DATE).unwrap();
+        assert_eq!(other, image);
+        let file = wrap(&image, b"", 0).unwrap();
+        assert!(Volume::Wrapped.find(&file, b"Log 1").is_ok());
+    }
+}
+
 #[test]
 fn refusals() {
     for (file, at, number) in [

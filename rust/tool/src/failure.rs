@@ -10,8 +10,8 @@ pub enum Failure {
         image: String,
         /// Why.
         refusal: Refusal,
-        /// The name that it was about, where the command has several.
-        name: Option<String>,
+        /// What is said behind it in brackets: which of several names it was, or what can be done.
+        remark: Option<String>,
     },
     /// The command line is none that the tool takes; a line on how it is used follows.
     Usage {
@@ -41,8 +41,8 @@ impl Failure {
     /// The text for standard error.
     pub fn text(&self) -> String {
         match self {
-            Failure::Refused { image, refusal, name } => match name {
-                Some(name) => format!("mfs: {image}: {refusal} ({name})\n"),
+            Failure::Refused { image, refusal, remark } => match remark {
+                Some(remark) => format!("mfs: {image}: {refusal} ({remark})\n"),
                 None => format!("mfs: {image}: {refusal}\n"),
             },
             Failure::Usage { words, usage } => format!("mfs: {words}\n{usage}\n"),

@@ -1,6 +1,6 @@
 //! The directory's blocks and their entries.
 
-use super::layout::{entry_at, entry_size, IN_USE, LOGICAL_BLOCK};
+use super::layout::{entry_at, entry_size, size_at, IN_USE, LOGICAL_BLOCK};
 use super::{Facts, Refusal};
 
 /// The first byte of each directory block.
@@ -36,7 +36,16 @@ pub fn read_directory(image: &[u8], facts: &Facts) -> Result<Vec<usize>, Refusal
 pub fn end_of_entries(image: &[u8], from: usize, block_end: usize) -> usize {
     let mut at = from;
     while at < block_end && image[at] & IN_USE != 0 {
-        at += entry_size(usize::from(image[at + entry_at::NAME_LENGTH]));
+        at += size_at(image, at);
     }
     at
+}
+
+/// Takes an entry out: the later ones of its block move up, and zeros follow them.
+pub fn take_out(image: &mut [u8], at: usize) {
+    let next = at + size_at(image, at);
+    let block_end = at - at % LOGICAL_BLOCK + LOGICAL_BLOCK;
+    let used_end = end_of_entries(image, next, block_end);
+    image.copy_within(next..used_end, at);
+    image[at + (used_end - next)..block_end].fill(0);
 }

@@ -114,6 +114,11 @@ pub fn entry_size(name_length: usize) -> usize {
     (entry_at::NAME + name_length).next_multiple_of(2)
 }
 
+/// The bytes that the entry at a place takes.
+pub fn size_at(image: &[u8], at: usize) -> usize {
+    entry_size(usize::from(image[at + entry_at::NAME_LENGTH]))
+}
+
 pub fn name_at(image: &[u8], at: usize) -> &[u8] {
     let length = usize::from(image[at + entry_at::NAME_LENGTH]);
     &image[at + entry_at::NAME..at + entry_at::NAME + length]

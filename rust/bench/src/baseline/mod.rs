@@ -1,4 +1,4 @@
-//! Document 01's calls on an MFS volume, as document 02 changes them, in safe Rust.
+//! The calls of documents 01 and 02 on an MFS volume, in safe Rust.
 //!
 //! The image is one slice. Every call checks it whole (checks 1 to 10), then runs the checks of its own in the order
 //! of the documents, and only then changes a byte. `Form` leads from a wrapped file to the image inside.
@@ -15,10 +15,10 @@ mod wrapped;
 #[cfg(test)]
 mod tests;
 
-use directory::end_of_entries;
+use directory::take_out;
 use layout::*;
 use map::put_map_entry;
-use volume::Volume;
+use volume::{check_name, Volume};
 
 pub use types::{Entry, Facts, Fork, ForkFacts, Form, Refusal};
 pub use wrapped::wrap;
@@ -89,7 +89,7 @@ pub fn create(image: &mut [u8], name: &[u8], finder: &[u8; 16], created: u32, ch
         return Err(Refusal::NumbersUsedUp);
     }
     let size = entry_size(name.len());
-    let (at, block_end) = volume.room_for(image, size).ok_or(Refusal::DirectoryFull)?;
+    let (at, block_end) = volume.room_for(image, size, None).ok_or(Refusal::DirectoryFull)?;
 
     image[at..block_end].fill(0);
     let entry = &mut image[at..at + size];
@@ -98,8 +98,7 @@ pub fn create(image: &mut [u8], name: &[u8], finder: &[u8; 16], created: u32, ch
     put_u32(entry, entry_at::NUMBER, number);
     put_u32(entry, entry_at::CREATED, created);
     put_u32(entry, entry_at::CHANGED, changed);
-    entry[entry_at::NAME_LENGTH] = name.len() as u8;
-    entry[entry_at::NAME..entry_at::NAME + name.len()].copy_from_slice(name);
+    put_name(entry, name);
     put_u32(image, volume_at::NEXT_NUMBER, number + 1);
     put_u16(image, volume_at::FILES, volume.facts.files + 1);
     Ok(())
@@ -203,12 +202,47 @@ pub fn delete(image: &mut [u8], name: &[u8]) -> Result<(), Refusal> {
             freed += 1;
         }
     }
-    let next = at + entry_size(usize::from(image[at + entry_at::NAME_LENGTH]));
-    let block_end = at - at % LOGICAL_BLOCK + LOGICAL_BLOCK;
-    let used_end = end_of_entries(image, next, block_end);
-    image.copy_within(next..used_end, at);
-    image[at + (used_end - next)..block_end].fill(0);
+    take_out(image, at);
     put_u16(image, volume_at::FILES, volume.facts.files - 1);
     put_u16(image, volume_at::FREE_BLOCKS, volume.facts.free_blocks + freed);
     Ok(())
+}
+
+/// Gives a file another name. An entry whose size changes is taken out and put in again.
+pub fn rename(image: &mut [u8], name: &[u8], new: &[u8], changed: u32) -> Result<(), Refusal> {
+    let volume = Volume::open(image)?;
+    volume.unlocked()?;
+    check_name(name)?;
+    check_name(new)?;
+    if new.len() > LONGEST_NEW_NAME {
+        return Err(Refusal::NameTooLong);
+    }
+    let at = volume.changeable_entry(image, name)?;
+    if volume.entry_of(image, new).is_ok_and(|other| other != at) {
+        return Err(Refusal::NameExists);
+    }
+    let size = entry_size(new.len());
+    let mut to = at;
+    if size != size_at(image, at) {
+        let (room, block_end) = volume.room_for(image, size, Some(at)).ok_or(Refusal::DirectoryFull)?;
+
+        let mut fields = [0; entry_at::NAME_LENGTH];
+        fields.copy_from_slice(&image[at..at + entry_at::NAME_LENGTH]);
+        take_out(image, at);
+        image[room..block_end].fill(0);
+        image[room..room + fields.len()].copy_from_slice(&fields);
+        to = room;
+    }
+    let entry = &mut image[to..to + size];
+    put_u32(entry, entry_at::CHANGED, changed);
+    put_name(entry, new);
+    Ok(())
+}
+
+/// Stores the name of an entry, and its pad byte if it has one.
+fn put_name(entry: &mut [u8], name: &[u8]) {
+    entry[entry_at::NAME_LENGTH] = name.len() as u8;
+    let (field, pad) = entry[entry_at::NAME..].split_at_mut(name.len());
+    field.copy_from_slice(name);
+    pad.fill(0);
 }

@@ -1,4 +1,4 @@
-//! Document 01's worked disk and its cases P1 to P12, what the cases leave out, and document 02's names.
+//! Document 01's worked disk and its cases P1 to P12, what the cases leave out, and document 02's names and renames.
 
 use super::map::decode_map;
 use super::*;
@@ -305,6 +305,125 @@ fn two_spellings_are_refused_by_7_and_near_misses_are_not() {
         image[name] = 0x83;
         assert_eq!(check(&image), Err(Refusal::Files));
     }
+}
+
+#[test]
+fn a_renamed_entry_of_the_same_size_stays() {
+    for name in [&b"WEEK1"[..], b"week1", b"WEEK9", b"four", b"\0\xFF\x8E "] {
+        let mut image = images::hall();
+        image[DIRECTORY + 112..DIRECTORY + 512].fill(0x7F);
+        let mut wanted = image.clone();
+        let entry = &mut wanted[DIRECTORY..DIRECTORY + 56];
+        put_u32(entry, entry_at::CHANGED, DATE);
+        entry[entry_at::NAME_LENGTH] = name.len() as u8;
+        entry[entry_at::NAME..].fill(0);
+        entry[entry_at::NAME..][..name.len()].copy_from_slice(name);
+        rename(&mut image, b"Week1", name, DATE).unwrap();
+        assert_eq!(image, wanted);
+    }
+    let mut image = hall_with(b"four");
+    image[DIRECTORY + 112 + 55] = 0xEE;
+    rename(&mut image, b"four", b"FOUR", 0).unwrap();
+    assert_eq!(image[DIRECTORY + 112 + 50..][..6], *b"\x04FOUR\0");
+}
+
+#[test]
+fn a_renamed_entry_of_another_size_goes_behind_the_last() {
+    let mut image = images::hall();
+    image[DIRECTORY + 112..DIRECTORY + 512].fill(0x7F);
+    image[DIRECTORY] = 0xFE;
+    let mut wanted = image.clone();
+    wanted[DIRECTORY..DIRECTORY + 512].fill(0);
+    wanted[DIRECTORY..][..56].copy_from_slice(&image[DIRECTORY + 56..][..56]);
+    wanted[DIRECTORY + 56..][..46].copy_from_slice(&image[DIRECTORY..][..46]);
+    put_u32(&mut wanted, DIRECTORY + 56 + entry_at::CHANGED, DATE);
+    wanted[DIRECTORY + 56 + 50..][..11].copy_from_slice(b"\x0AWEEK30 BAD");
+    rename(&mut image, b"WEEK1", b"WEEK30 BAD", DATE).unwrap();
+    assert_eq!(image, wanted);
+    assert_eq!(chain_of(&image, b"week30 bad"), [2, 4]);
+}
+
+#[test]
+fn a_renamed_entry_goes_to_the_first_block_with_room_once_it_is_out() {
+    // nine entries of 56 bytes in each of twelve blocks: 8 bytes are left there, and 64 once the file is out
+    let mut image = images::shapes().swap_remove(1).1;
+    let place = |image: &[u8], name: &[u8]| find(image, name).unwrap().0;
+    let zero = |image: &[u8], block: usize, from: usize| {
+        let block = &image[DIRECTORY + 512 * block..][..512];
+        block[from..].iter().all(|&byte| byte == 0)
+    };
+    let before = image.clone();
+    assert_eq!(
+        rename(&mut image, b"W0020", &[b'a'; 14], DATE),
+        Err(Refusal::DirectoryFull)
+    );
+    assert_eq!(image, before);
+    // in its own block
+    rename(&mut image, b"W0020", &[b'a'; 13], DATE).unwrap();
+    assert_eq!((place(&image, &[b'a'; 13]), place(&image, b"W0021")), (26, 20));
+    // in an earlier one
+    delete(&mut image, b"W0003").unwrap();
+    rename(&mut image, b"W0107", &[b'b'; 13], DATE).unwrap();
+    assert_eq!(place(&image, &[b'b'; 13]), 8);
+    assert!(zero(&image, 11, 448));
+    // in a later one
+    delete(&mut image, b"W0106").unwrap();
+    rename(&mut image, b"W0010", &[b'c'; 14], DATE).unwrap();
+    assert_eq!(place(&image, &[b'c'; 14]), 105);
+    assert!(zero(&image, 1, 448) && zero(&image, 11, 7 * 56 + 65));
+    let facts = check(&image).unwrap();
+    assert_eq!((facts.files, facts.next_number), (106, 109));
+}
+
+#[test]
+fn renames_are_refused_in_order() {
+    let long = [b'n'; 256];
+    for (name, new, number) in [
+        (&long[..0], &long[..0], 12),
+        (&long, &long[..32], 12),
+        (b"none", &long[..0], 12),
+        (b"none", &long, 12),
+        (b"none", &long[..32], 21),
+        (b"WEEK1", &long[..255], 21),
+        (b"none", b"RATES", 13),
+        (b"WEEK1", b"rates", 14),
+    ] {
+        assert_eq!(refused(|image| rename(image, name, new, DATE)), number);
+    }
+    let mut locked = images::hall();
+    locked[DIRECTORY] |= 1;
+    for new in [&b"RATES"[..], b"week1", b"WEEK2"] {
+        assert_eq!(rename(&mut locked, b"WEEK1", new, DATE), Err(Refusal::FileLocked));
+    }
+    put_u16(&mut locked, volume_at::ATTRIBUTES, 0x0080);
+    assert_eq!(rename(&mut locked, b"", b"", DATE), Err(Refusal::VolumeLocked));
+    // 12 bytes are left behind the fourth entry
+    let mut full = hall_with(&[b'n'; 255]);
+    create(&mut full, &[b'f'; 31], &[0; 16], 1, 1).unwrap();
+    let before = full.clone();
+    for (name, new, refusal) in [
+        (&long[..255], &long[..255], Refusal::NameTooLong),
+        (b"WEEK1", &[b'F'; 31], Refusal::NameExists),
+        (b"WEEK1", &[b'w'; 18], Refusal::DirectoryFull),
+    ] {
+        assert_eq!(rename(&mut full, name, new, DATE), Err(refusal));
+        assert_eq!(full, before);
+    }
+    rename(&mut full, b"WEEK1", &[b'w'; 17], DATE).unwrap();
+    assert_eq!(full[DIRECTORY + 511], b'w');
+}
+
+#[test]
+fn a_file_is_renamed_to_its_other_spelling() {
+    let mut image = hall_with(b"\x83t\x8E");
+    for name in [b"\x8Et\x8E", b"\x83T\x83"] {
+        rename(&mut image, b"\x83t\x8E", name, DATE).unwrap();
+        assert_eq!(entry(&image, 2).unwrap().name, name);
+    }
+    assert_eq!(
+        rename(&mut image, b"WEEK1", b"\x8Et\x8E", DATE),
+        Err(Refusal::NameExists)
+    );
 }
 
 #[test]

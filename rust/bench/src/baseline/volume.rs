@@ -51,9 +51,7 @@ impl Volume {
 
     /// The place of a name in directory order.
     pub fn place_of(&self, image: &[u8], name: &[u8]) -> Result<usize, Refusal> {
-        if name.is_empty() || name.len() > LONGEST_NAME {
-            return Err(Refusal::NameLength);
-        }
+        check_name(name)?;
         self.entries
             .iter()
             .position(|&at| equal(name_at(image, at), name))
@@ -117,13 +115,26 @@ impl Volume {
         })
     }
 
-    /// Where the first directory block with room for an entry of this size has it, and where that block ends.
-    pub fn room_for(&self, image: &[u8], size: usize) -> Option<(usize, usize)> {
+    /// Where the first directory block with room for an entry of this size has it, and where that block ends. The entry
+    /// that begins at `out`, if one does, is to be taken out before.
+    pub fn room_for(&self, image: &[u8], size: usize, out: Option<usize>) -> Option<(usize, usize)> {
         directory_blocks(&self.facts)
             .map(|start| {
                 let block_end = start + LOGICAL_BLOCK;
-                (end_of_entries(image, start, block_end), block_end)
+                let end = end_of_entries(image, start, block_end);
+                match out {
+                    Some(at) if (start..block_end).contains(&at) => (end - size_at(image, at), block_end),
+                    _ => (end, block_end),
+                }
             })
             .find(|(at, block_end)| block_end - at >= size)
     }
+}
+
+/// Check 12.
+pub fn check_name(name: &[u8]) -> Result<(), Refusal> {
+    if name.is_empty() || name.len() > LONGEST_NAME {
+        return Err(Refusal::NameLength);
+    }
+    Ok(())
 }

@@ -42,6 +42,7 @@ pub fn by_archive(call: &Call, form: Form, file: &mut [u8], buffer: &mut [u8]) -
         }
         Call::Cut(name, fork, size, changed) => Answer::Change(foreign::cut(form, file, name, *fork, *size, *changed)),
         Call::Delete(name) => Answer::Change(foreign::delete(form, file, name)),
+        Call::Rename(name, new, changed) => Answer::Change(foreign::rename(file, name, new, *changed)),
         Call::Wrap(name, format, _) => Answer::Change(foreign::wrap(file, name, *format, buffer)),
     }
 }
@@ -79,6 +80,7 @@ pub fn by_baseline(call: &Call, form: Form, file: &mut [u8], buffer: &mut [u8]) 
         Call::Create(..) | Call::Write(..) | Call::Cut(..) | Call::Delete(..) => {
             changed_by(form.change(file, |image| call.change(image)))
         }
+        Call::Rename(..) => changed_by(call.change(file)),
         Call::Wrap(name, format, _) => changed_by(baseline::wrap(file, name, *format, buffer)),
     }
 }

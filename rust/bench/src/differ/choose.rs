@@ -1,7 +1,7 @@
 //! A call of a kind for an image, its arguments about the edges.
 
 use crate::baseline::{self, Entry, Facts, ForkFacts};
-use crate::call::{Bytes, Call};
+use crate::call::{Bytes, Call, RENAME};
 use crate::images::{get2, DATA, HEADER, TAGS};
 use crate::random::Random;
 use crate::spelling::{near_miss, respell};
@@ -48,6 +48,7 @@ pub fn call(random: &mut Random, image: &[u8], kind: usize) -> Call {
             Call::Cut(target.name, target.fork, about(random, near), random.next() as u32)
         }
         8 => Call::Delete(target.name),
+        RENAME => rename(random, image, target.name),
         _ => wrap(random, image.len() == DATA),
     }
 }
@@ -181,6 +182,27 @@ fn create(random: &mut Random, name: Bytes) -> Call {
     Call::Create(name, finder, random.next() as u32, random.next() as u32)
 }
 
+/// The file's own name in any spelling, a name that may be another's, one about as long, or a new one.
+fn rename(random: &mut Random, image: &[u8], name: Bytes) -> Call {
+    let new = match random.below(8) {
+        0 => {
+            let mut own = name.to_vec();
+            respell(random, &mut own);
+            own
+        }
+        1 => self::name(random, image),
+        2..=4 => {
+            let length = (name.len() + random.index(5)).saturating_sub(2);
+            bytes(random, length)
+        }
+        _ => {
+            let length = new_length(random);
+            bytes(random, length)
+        }
+    };
+    Call::Rename(name, Bytes(new), random.next() as u32)
+}
+
 /// The length of a new name: mostly short, else about those that 21 and 12 refuse, or any, or near 31.
 fn new_length(random: &mut Random) -> usize {
     match random.below(8) {
@@ -228,4 +250,51 @@ fn wrap(random: &mut Random, fits: bool) -> Call {
         random.index(100)
     };
     Call::Wrap(name, random.byte(), buffer)
+}
+
+#[cfg(test)]
+mod tests {
+    use super::*;
+    use std::cmp::Ordering;
+
+    /// Where the entry of a name begins.
+    fn place_of(image: &[u8], name: &[u8]) -> Option<usize> {
+        let (place, _) = baseline::find(image, name).ok()?;
+        Some(volumes::entries(image)[place as usize])
+    }
+
+    #[test]
+    fn renames_come_in_every_situation() {
+        let mut random = Random::new(1);
+        let mut numbers = [0; 25];
+        // to its own name; to another of the same size, in its place; to a longer or shorter one, in its block, to a
+        // block before it, to one behind it
+        let mut done = [0; 5];
+        for _ in 0..3_000 {
+            let mut image = volumes::full(&mut random);
+            let call = call(&mut random, &image, RENAME);
+            let Call::Rename(name, new, _) = &call else {
+                panic!("{call:?}");
+            };
+            let (from, own) = (place_of(&image, name), place_of(&image, new));
+            let size = |name: &[u8]| (51 + name.len()).div_ceil(2);
+            if let Err(refusal) = call.change(&mut image) {
+                numbers[usize::from(refusal.number())] += 1;
+                continue;
+            }
+            let (from, to) = (from.unwrap(), place_of(&image, new).unwrap());
+            let situation = match (to / 512).cmp(&(from / 512)) {
+                _ if own == Some(from) => 0,
+                _ if size(name) == size(new) => 1,
+                Ordering::Equal => 2,
+                Ordering::Less => 3,
+                Ordering::Greater => 4,
+            };
+            done[situation] += 1;
+        }
+        for number in [11, 12, 13, 14, 15, 18, 21] {
+            assert!(numbers[number] > 20, "{number}: {numbers:?}");
+        }
+        assert!(done.iter().all(|&count| count > 20), "{done:?}");
+    }
 }

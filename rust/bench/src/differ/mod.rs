@@ -6,7 +6,7 @@ mod choose;
 mod lent;
 
 use crate::baseline::Form;
-use crate::call::{Call, KINDS, WRAP};
+use crate::call::{Call, KINDS, RENAME, WRAP};
 use crate::images::{self, DATA, HEADER};
 use crate::random::Random;
 use crate::volumes;
@@ -20,7 +20,10 @@ const BUFFER_BYTE: u8 = 0x5A;
 const NUMBERS: usize = 25;
 
 /// The kinds of the calls that take wrapped files too.
-const NINE: [usize; WRAP] = [0, 1, 2, 3, 4, 5, 6, 7, 8];
+const NINE: [usize; RENAME] = [0, 1, 2, 3, 4, 5, 6, 7, 8];
+
+/// The kinds of the calls on images, but for wrap, which wants a long buffer and is made apart.
+const TEN: [usize; WRAP] = [0, 1, 2, 3, 4, 5, 6, 7, 8, RENAME];
 
 /// How many turns there are to one with a wrapped file, whose calls take longer.
 const TURNS: u64 = 25;
@@ -99,7 +102,11 @@ pub fn run(seed: u64, calls: u64) -> Result<Report, Box<Difference>> {
         }
         if differ.random.once_in(2) {
             let mut image = volumes::alike(&mut differ.random);
-            differ.kinds(Form::Bare, &mut image, &NINE)?;
+            differ.kinds(Form::Bare, &mut image, &TEN)?;
+        }
+        if differ.random.once_in(2) {
+            let mut image = volumes::full(&mut differ.random);
+            differ.kinds(Form::Bare, &mut image, &[RENAME, RENAME, 5, RENAME, 8, RENAME])?;
         }
         if differ.random.once_in(TURNS) {
             differ.wrapped(&shapes)?;
@@ -136,7 +143,7 @@ impl Differ {
             let kind = if self.random.once_in(40) {
                 WRAP
             } else {
-                self.random.index(9)
+                self.random.index(TEN.len())
             };
             self.kinds(Form::Bare, &mut image, &[kind])?;
             if self.random.once_in(8) {
@@ -144,14 +151,14 @@ impl Differ {
                 for _ in 0..=self.random.index(3) {
                     volumes::damage(&mut self.random, &mut damaged);
                 }
-                self.kinds(Form::Bare, &mut damaged, &NINE)?;
+                self.kinds(Form::Bare, &mut damaged, &TEN)?;
             }
         }
         Ok(())
     }
 
-    /// A run of calls on one wrapped file; in between, calls on damaged copies of it, and wraps of its image, which is
-    /// damaged at times.
+    /// A run of calls on one wrapped file; in between, calls on damaged copies of it, renames, which take it for an
+    /// image, and wraps of its image, which is damaged at times.
     fn wrapped(&mut self, shapes: &[(&str, Vec<u8>)]) -> Compared {
         let shape = &shapes[self.random.index(shapes.len())].1;
         let image = if shape.len() == DATA && self.random.once_in(2) {
@@ -161,7 +168,7 @@ impl Differ {
         };
         let mut file = volumes::wrap_up(&mut self.random, &image);
         for _ in 0..self.random.between(5, 40) {
-            let kind = self.random.index(9);
+            let kind = self.random.index(NINE.len());
             self.kinds(Form::Wrapped, &mut file, &[kind])?;
             if self.random.once_in(8) {
                 let mut damaged = file.clone();
@@ -169,6 +176,9 @@ impl Differ {
                     volumes::damage_wrapped(&mut self.random, &mut damaged);
                 }
                 self.kinds(Form::Wrapped, &mut damaged, &NINE)?;
+            }
+            if self.random.once_in(16) {
+                self.kinds(Form::Bare, &mut file, &[RENAME])?;
             }
             if self.random.once_in(8) {
                 let mut image = file[HEADER..HEADER + DATA].to_vec();
@@ -311,6 +321,9 @@ mod tests {
         assert!(report.calls >= 3_000);
         assert!(report.bare[..WRAP].iter().all(|row| row[0] > 0), "each call succeeds");
         assert!(report.bare[5][21] > 0, "create refuses a long name");
+        for number in [11, 12, 13, 14, 15, 18, 21] {
+            assert!(report.bare[RENAME][number] > 0, "rename gives {number}");
+        }
     }
 
     #[test]
@@ -323,13 +336,14 @@ mod tests {
         }
         let Report { bare, wrapped, .. } = differ.report;
         for number in [0, 22, 23, 24] {
-            let given = wrapped[..WRAP].iter().all(|row| row[number] > 0);
+            let given = wrapped[..RENAME].iter().all(|row| row[number] > 0);
             assert!(given, "each call gives {number}");
         }
         assert!(
             bare[WRAP][0] > 0 && bare[WRAP][22] > 0,
             "images are wrapped and refused"
         );
+        assert!(bare[RENAME][1] > 0, "a wrapped file is no image");
     }
 
     #[test]

@@ -2,6 +2,7 @@
 
 mod alike;
 mod damage;
+mod full;
 mod wrapped;
 
 use crate::images::{self, build, get2, FileSpec, ForkSpec, Geometry};
@@ -11,6 +12,7 @@ use std::collections::HashSet;
 
 pub use alike::alike;
 pub use damage::damage;
+pub use full::full;
 pub use wrapped::{damage_wrapped, disk_400k, wrap_up};
 
 /// An accepted volume, from tiny to (seldom) the largest.

@@ -17,6 +17,9 @@ use crate::save::Target;
 const NO_DATE: &str = "--date is missing: a disk keeps the dates of the desk's own clock, which nobody but you knows. \
                        Give 'YYYY-MM-DD HH:MM:SS', @N for the stored number, or now for this machine's local clock";
 
+/// The refusal of a name's length, which `rename` may give for either of two.
+const NAME_LENGTH: u8 = 12;
+
 /// Makes calls on a copy of an image, bare or wrapped, and saves it if they were done.
 fn change(
     arguments: &Arguments,
@@ -150,9 +153,34 @@ pub fn delete(arguments: &Arguments, console: &mut Console) -> Result<(), Failur
             last = Err(Failure::Refused {
                 image: names::path(path),
                 refusal,
-                name: (names.len() > 1).then(|| names::shown(name)),
+                remark: (names.len() > 1).then(|| names::shown(name)),
             });
         }
         last
+    })
+}
+
+/// `rename`: a file of a bare image gets another name.
+pub fn rename(arguments: &Arguments, _: &mut Console) -> Result<(), Failure> {
+    let path = arguments.operand(0);
+    let date = date(arguments)?;
+    let (old, new) = (name(arguments.operand(1))?, name(arguments.operand(2))?);
+    change(arguments, path, |volume, image| {
+        let Err(refusal) = volume.rename(image, &old, &new, date) else {
+            return Ok(());
+        };
+        let remark = match volume {
+            Volume::Wrapped => Some("a wrapped file: take the image out by mfs unwrap, and rename there"),
+            Volume::Bare if refusal.number() == NAME_LENGTH => Some(match volume.find(image, &old) {
+                Err(same) if same == refusal => "the old name",
+                _ => "the new name",
+            }),
+            Volume::Bare => None,
+        };
+        Err(Failure::Refused {
+            image: names::path(path),
+            refusal,
+            remark: remark.map(str::to_string),
+        })
     })
 }

@@ -30,7 +30,7 @@ struct Verb {
 
 const ANY: usize = usize::MAX;
 
-const VERBS: [Verb; 11] = [
+const VERBS: [Verb; 12] = [
     Verb {
         name: "check",
         takes: "[--json] IMAGE..",
@@ -135,6 +135,21 @@ and the type and creator given, ???? for each that is not.
         fewest: 2,
         most: ANY,
         run: changing::delete,
+    },
+    Verb {
+        name: "rename",
+        takes: "--date DATE IMAGE OLD NEW",
+        does: "another name for a file",
+        more: "\
+NEW has at most 31 characters and is no other file's name; OLD in another case
+will do. The file keeps its number, type, creator, creation date and forks, and
+its change date is DATE. A Disk Copy 4.2 file is refused: mfs unwrap makes a
+bare image of it.
+",
+        options: &["--date"],
+        fewest: 3,
+        most: 3,
+        run: changing::rename,
     },
     Verb {
         name: "wrap",
@@ -242,6 +257,6 @@ fn refused(path: &OsStr) -> impl Fn(Refusal) -> Failure + '_ {
     |refusal| Failure::Refused {
         image: names::path(path),
         refusal,
-        name: None,
+        remark: None,
     }
 }
