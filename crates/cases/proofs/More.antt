@@ -4,7 +4,7 @@ use Rattle.model.specs.Cases.{AllRight, end, _&_}
 use Rattle.model.proofs.Cases.{everything, row}
 use Rattle.cases.specs.More.{badVolumes, readings, creations, changings, orders, oldDisk, borderDisk, foldings, sampled, speltDisk, lockedDisk, spellings}
 use Rattle.cases.specs.More.{contents, wideDisk, wideGrown, wideForks, oldFacts, oldNames}
-use Rattle.cases.specs.More.{leftDisk, renames, limited, Limits, MoreCases}
+use Rattle.cases.specs.More.{leftDisk, renames, weekDisk, packedDisk, inParts, limited, Limits, MoreCases}
 
 bad-volumes : AllRight badVolumes
 unfolding everything badVolumes
@@ -51,6 +51,10 @@ all-renames : AllRight renames
 unfolding everything sampled leftDisk renames
 all-renames = row & row & row & row & row & row & row & row & row & row & row & row & row & row & row & row & row & row & row & row & row & end
 
+all-in-parts : AllRight inParts
+unfolding everything weekDisk packedDisk inParts
+all-in-parts = row & row & row & row & row & row & end
+
 limits : Limits
 unfolding everything limited Limits
 limits = (refl, refl, refl, refl, refl, refl, refl, refl)
@@ -69,5 +73,6 @@ more = (
   all-wide-forks,
   all-old-names,
   all-renames,
+  all-in-parts,
   limits,
 )

@@ -357,6 +357,30 @@ renames =
     (withBytes 2104 (entryBytes 0x80 2 (forkBytesOf 3 512 512) (forkBytesOf 5 3 512) 2500000000 9 BAD (0 ∷ [])) (sampled resourceDisk))
     ∷ []
 
+-- HALL after P3, and after P4
+unfoldable pub weekDisk : List ℕ
+weekDisk =
+    withBytes 1058 (bytes16 1) (withBytes 1088 (0x00 ∷ 0x40 ∷ 0x01 ∷ 0x00 ∷ 0x50 ∷ 0x01 ∷ [])
+    (withWeek1 2 1100 1536 9 (withBytes 3772 (sample 0 324) (withBytes 4096 (sample 324 76) hall))))
+
+unfoldable pub packedDisk : List ℕ
+packedDisk =
+    withBytes 1058 (bytes16 0) (withBytes 1088 (0x00 ∷ 0x40 ∷ 0x01 ∷ 0x00 ∷ 0x50 ∷ 0x06 ∷ 0x00 ∷ 0x10 ∷ [])
+    (withWeek1 2 2048 2048 9 (withBytes 3772 (sample 0 324) (withBytes 4096 (sample 324 1024) hall))))
+
+-- writes in parts (document 02, T-06)
+unfoldable pub inParts : List Row
+inParts =
+    -- P4's bytes in the parts 400, none, 948 and none: the first is P3
+    does weekDisk (write WEEK1 Data 1100 [] 9) (only 0 []) weekDisk
+    ∷ does weekDisk (write WEEK1 Data 1100 (sample 400 948) 9) (only 0 []) packedDisk
+    ∷ does packedDisk (write WEEK1 Data 2048 [] 9) (only 0 []) packedDisk
+    -- P5's, one byte more, in 400 and 949, and in 1,348 and 1: 17 at the second part; in all and none: 17 at the first, then 16
+    ∷ refused 17 (write WEEK1 Data 1100 (sample 400 949) 9) weekDisk
+    ∷ refused 17 (write WEEK1 Data 2048 (sample 1348 1) 9) packedDisk
+    ∷ refused 16 (write WEEK1 Data 2049 [] 9) hall
+    ∷ []
+
 -- check 3 on an image of 65,535 blocks with these N, A and directory length
 unfoldable pub limited : ℕ → ℕ → ℕ → Bool
 limited n a dirLength =
@@ -391,4 +415,5 @@ MoreCases =
     × AllRight wideForks
     × AllRight oldNames
     × AllRight renames
+    × AllRight inParts
     × Limits

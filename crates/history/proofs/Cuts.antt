@@ -17,7 +17,7 @@ use Rattle.model.specs.declared.ForkFacts.{ForkFacts}
 use Rattle.model.specs.declared.Fork.{Fork}
 use Rattle.model.proofs.Times.{times-append}
 use Rattle.laws.proofs.MapSteps.{forkWith}
-use Rattle.laws.proofs.Refusals.{MayCut, may-cut}
+use Rattle.laws.proofs.Refusals.{MayChangeFork, may-cut}
 use Rattle.laws.proofs.TheEntry.{the-entry}
 use Rattle.laws.proofs.Rewrites.{Rewritten}
 use Rattle.laws.proofs.Cuts.{its, kept, free, left, cut-rewrites, now-bytes, now-count, is-left, cut-accepted}
@@ -26,7 +26,7 @@ use Rattle.history.proofs.Answers.{same-A}
 use Rattle.history.proofs.Rewrites.{rewrite-agrees, rewrite-kept}
 use Rattle.history.proofs.Joined.{Done}
 
-module _ (image : List ℕ) (acc : Accepted image) (name : List ℕ) (fork : Fork) (n changed : ℕ) (m : MayCut image name fork n) where
+module _ (image : List ℕ) (acc : Accepted image) (name : List ℕ) (fork : Fork) (n changed : ℕ) (m : MayChangeFork image name fork n) where
   abbrev f : VolumeFacts
   f = factsOf image
 

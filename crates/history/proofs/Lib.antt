@@ -11,3 +11,5 @@ pub mod Lawful
 pub mod Run
 pub mod Corollaries
 pub mod Wrapped
+pub mod Parts
+pub mod PartCases

@@ -19,13 +19,17 @@ use Rattle.history.proofs.Joined.{stays}
 use Rattle.history.proofs.Lawful.{Compared, Aside, lawful}
 
 -- the number of an answer is the refusal, or 0
-pub number-is : (call : Call) (image : List ℕ) → answer call image .number ≡ refusal call image
-unfolding answer only
-number-is call image = go (refusal call image) (eqb (refusal call image) 0) refl
+pub number-of : (call : Call) (image : List ℕ) (n : ℕ) → cond (eqb n 0) (reply call image) (only n (lent call)) .number ≡ n
+unfolding only
+number-of call image n = go (eqb n 0) refl
   where
-    go : (r : ℕ) (t : Bool) → eqb r 0 ≡ t → cond t (reply call image) (only r (lent call)) .number ≡ r
-    go r true e = lawful call .answered image ∙ sym (eqb-true r 0 e)
-    go r false e = refl
+    go : (t : Bool) → eqb n 0 ≡ t → cond t (reply call image) (only n (lent call)) .number ≡ n
+    go true e = lawful call .answered image ∙ sym (eqb-true n 0 e)
+    go false e = refl
+
+pub number-is : (call : Call) (image : List ℕ) → answer call image .number ≡ refusal call image
+unfolding answer
+number-is call image = number-of call image (refusal call image)
 
 either-way : (t : Bool) (h : History) → cond t h h ≡ h
 either-way true h = refl

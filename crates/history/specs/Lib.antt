@@ -7,6 +7,9 @@ pub mod Dates
 pub mod Room
 pub mod InPieces
 pub mod ReadBack
+pub mod InParts
+pub mod PartCases
 pub mod EveryList
 pub mod WrappedRuns
 pub mod Wrapping
+pub mod WrappedParts

@@ -3,11 +3,14 @@ ghost use Rattle.history.specs.Dates.{Dates};
 ghost use Rattle.history.specs.Deleting.{Deleting};
 ghost use Rattle.history.specs.EveryList.{EveryList};
 ghost use Rattle.history.specs.History.{EveryRun};
+ghost use Rattle.history.specs.InParts.{EveryCut, InParts};
 ghost use Rattle.history.specs.InPieces.{InPieces};
+ghost use Rattle.history.specs.PartCases.{PartCases};
 ghost use Rattle.history.specs.ReadBack.{ReadBack};
 ghost use Rattle.history.specs.Renaming.{Renaming};
 ghost use Rattle.history.specs.Room.{Room};
 ghost use Rattle.history.specs.Untouched.{Untouched};
+ghost use Rattle.history.specs.WrappedParts.{EveryWrappedCut, WrappedInParts};
 ghost use Rattle.history.specs.WrappedRuns.{EveryWrappedList, WrappedRuns};
 ghost use Rattle.history.specs.Wrapping.{Wrapping};
 
@@ -56,6 +59,22 @@ pub fn read_back()
     ensures { λ _. ⌜ ReadBack ⌝ }
 {}
 
+// A write cut into parts that are written one behind the other, with the same date, leaves the very image that the single write leaves;
+// where that is refused for room, some part is, and where it is refused otherwise, so is the first part.
+pub fn in_parts()
+    ensures { λ _. ⌜ InParts ⌝ }
+{}
+
+// No way to cut falls out of that: whatever is written can be written in its parts.
+pub fn every_cut()
+    ensures { λ _. ⌜ EveryCut ⌝ }
+{}
+
+// Worked cases of what these say of events.
+pub fn part_cases()
+    ensures { λ _. ⌜ PartCases ⌝ }
+{}
+
 // No list of calls falls out of the claim: whatever is called has a run, and that run keeps step with its history.
 pub fn every_list()
     ensures { λ _. ⌜ EveryList ⌝ }
@@ -76,4 +95,14 @@ pub fn every_wrapped_list()
 // A wrapped image unwraps to the image.
 pub fn wrapping()
     ensures { λ _. ⌜ Wrapping ⌝ }
+{}
+
+// A write to a wrapped file, cut into parts, leaves the very file that the single write leaves, and is refused as that is.
+pub fn wrapped_in_parts()
+    ensures { λ _. ⌜ WrappedInParts ⌝ }
+{}
+
+// No way to cut falls out of that.
+pub fn every_wrapped_cut()
+    ensures { λ _. ⌜ EveryWrappedCut ⌝ }
 {}

@@ -35,7 +35,7 @@ use Rattle.laws.proofs.Octets.{octets-u16, octets-u32, bytes-be32}
 use Rattle.laws.proofs.Octets.{bytes-putChain, bytes-putFree, bytes-putContent, bytes-paste, bytes-sets, octets-sets}
 use Rattle.laws.proofs.Blocks.{cut-count}
 use Rattle.laws.proofs.Reorder.{first-found}
-use Rattle.laws.proofs.Refusals.{MayCreate, MayChangeFile, MayWrite, MayCut, MayRename}
+use Rattle.laws.proofs.Refusals.{MayCreate, MayChangeFile, MayWrite, MayChangeFork, MayRename}
 use Rattle.laws.proofs.Acceptance.{sound-fork, map-passes}
 
 -- ---- what holds of each element
@@ -338,6 +338,18 @@ rewritten-kept image acc h name fork logical bs changed free base b w k l c r =
     (directory-kept f base (rewritten name g (directoryBlocks f image)) b
     (octets-rewritten name g o (directoryBlocks f image) (octets-directory f image (octets image h))))
 
+-- a write that is not refused ends where a field can say
+pub written-low : (image : List ℕ) → Accepted image → (name : List ℕ) (fork : Fork) (offset count : ℕ) → MayWrite image name fork offset count
+    → grown (forkOf fork (entryNamed name image) .logical) offset count < 4294967296
+written-low image acc name fork o count may =
+    let f = factsOf image in
+    let g = forkOf fork (entryNamed name image) in
+    let size = grown (g .logical) o count in
+    let need = fewest-needed (A f) size (blockCount (A f) g) in
+    let fit = size-fits image acc (fewest size (A f))
+    (omega (arith, named-count image acc name (may .file .exists) fork, length-forkBlocks (mapEntry image) (A f) g, may .room)) in
+    omega (arith, fewest-holds size (A f) (omega (arith, acc .facts .layout .large)))
+
 pub written-bytes : (image : List ℕ) → Accepted image → Bytes image → (name : List ℕ) (fork : Fork) (offset : ℕ) (bytes : List ℕ) (changed : ℕ)
     → Fits (write name fork offset bytes changed) → MayWrite image name fork offset (length bytes) → Bytes (change (write name fork offset bytes changed) image)
 unfolding change written Fits
@@ -352,16 +364,14 @@ written-bytes image acc h name fork o xs changed fits may =
     let enough : new ≤ freeCount f = rw (length-forkBlocks (mapEntry image) (A f) g) (may .room) in
     let count = named-count image acc name found fork in
     let most : length all ≤ length old + new = rw (length-append, length-take) (omega arith) in
-    let need : fewest size (A f) ≤ length old + new = fewest-needed (A f) size (length old) in
-    let fit = size-fits image acc (fewest size (A f)) (omega arith) in
     let w : InMap (N f) all = in-both (N f) old (take new (freeBlocks (mapEntry image) (N f))) (named-blocks image acc name found fork)
     (λ b p. let r = free-in (mapEntry image) (N f) new b p in (r .0, r .1)) in
     rewritten-kept image acc h name fork size all changed (freeCount f - new) (putContent (S f) (A f) (putChain image all) all o xs)
     (bytes-putContent (S f) (A f) (putChain image all) all o xs (bytes-putChain (N f) (acc .facts .layout .most) image all w h) (fits .2))
-    w (omega arith) (omega (arith, fewest-holds size (A f) (omega (arith, acc .facts .layout .large)))) (fits .3) (omega (arith, count))
+    w (omega arith) (written-low image acc name fork o (length xs) may) (fits .3) (omega (arith, count))
 
 pub shortened-bytes : (image : List ℕ) → Accepted image → Bytes image → (name : List ℕ) (fork : Fork) (size changed : ℕ)
-    → Fits (cut name fork size changed) → MayCut image name fork size → Bytes (change (cut name fork size changed) image)
+    → Fits (cut name fork size changed) → MayChangeFork image name fork size → Bytes (change (cut name fork size changed) image)
 unfolding change shortened Fits
 shortened-bytes image acc h name fork n changed fits may =
     let f = factsOf image in

@@ -5,15 +5,17 @@ use mathlib.Core.Path.{_≡_, refl, sym, ap, subst, _∙_}
 use mathlib.Core.List.{List, [], _∷_, _++_, append-assoc}
 use mathlib.Core.Logic.{_⊎_, inl, inr, ⊎-elim}
 use native.Mathlib.Omega.{arith}
+use native.Mathlib.Decide.{decLt}
 use lib.ListN.{length, set, take, drop, length-append, length-replicate, length-drop, drop-of-length-le, List·getD-append}
-use lib.Seq.{sets, set-getD, length-sets, length-take-le, take-all, take-at, drop-at, drop-drop, getD-take, getD-drop}
+use lib.Seq.{sets, set-getD, length-sets, length-take-le, take-all, take-at, drop-at, drop-drop, getD-take, getD-drop, ext-getD}
 use borrow.Rule.Slice.PartMut.{putMid, post-is, put-same, mid-len}
 use Rattle.model.specs.Bytes.{byte, be16, be32, bytes32, zeros, Bytes}
 use Rattle.model.specs.Container.{inside, tags, tagSize, dataSum, turned, added, summed, checksum, tagChecksum, SoundHeader, SoundContainer}
 use Rattle.model.specs.Container.{withData, renewed, fixedFields, headerFor, wrapping}
 use Rattle.model.proofs.Bytes.{part-to-end}
 use Rattle.model.proofs.Container.{header-length}
-use Rattle.laws.proofs.Stores.{sets-before, sets-behind, drop-sets, join32, be16-same, be32-same, be16-drop, be32-drop, be32-sets}
+use Rattle.laws.proofs.Stores.{sets-before, sets-behind, sets-in, drop-sets, join32, be16-same, be32-same, be16-drop, be32-drop, be32-sets}
+use Rattle.laws.proofs.Content.{same-byte}
 use Rattle.laws.proofs.Octets as octets
 
 -- ---- the checksum fits 32 bits
@@ -170,6 +172,55 @@ module _ (file content : List ℕ) (room : 409684 ≤ length file) (long : lengt
       let all = octets.octets-append (take 84 file) (content ++ tags file) head rest in
       let stored = octets.octets-u32 (checksum content) (checksum-fits content) in
       octets.bytes _ (octets.octets-sets (withData file content) 72 (bytes32 (checksum content)) all stored)
+
+-- data put anew twice: the second stand over the first, and so does their checksum
+module _ (file first second : List ℕ) (room : 409684 ≤ length file) (long₁ : length first ≡ 409600) (long₂ : length second ≡ 409600) where
+  abbrev once : List ℕ
+  once = renewed file first
+
+  room-once : 409684 ≤ length once
+  room-once = omega (arith, renewed-length file first room long₁)
+
+  abbrev twice : List ℕ
+  twice = renewed once second
+
+  sum-byte : (l : List ℕ) → 409684 ≤ length l → (i : ℕ) → i < 4 → byte (renewed l second) (72 + i) ≡ byte (bytes32 (checksum second)) i
+  unfolding renewed
+  sum-byte l r i h = sets-in (bytes32 (checksum second)) (withData l second) 72 i (omega (arith, with-length l second r long₂)) h
+
+  twice-byte : (i : ℕ) → byte twice i ≡ byte (renewed file second) i
+  unfolding inside
+  twice-byte i =
+      elim (decLt i 72) [
+        | yes h ↦ outside (inl h)
+        | no h ↦ elim (decLt i 76) [
+          | yes k ↦
+              let at : 72 + (i - 72) ≡ i = omega arith in
+              subst (λ (j : ℕ). byte twice j ≡ byte (renewed file second) j) at
+              (sum-byte once room-once (i - 72) (omega arith) ∙ sym (sum-byte file room (i - 72) (omega arith)))
+          | no k ↦ elim (decLt i 84) [
+            | yes l ↦ outside (inr (inl (omega arith)))
+            | no l ↦ elim (decLt i 409684) [
+              | yes m ↦ data-byte (omega arith) m
+              | no m ↦ outside (inr (inr (omega arith)))
+            ]
+          ]
+        ]
+      ]
+    where
+      outside : (i < 72) ⊎ ((76 ≤ i) × (i < 84)) ⊎ (409684 ≤ i) → byte twice i ≡ byte (renewed file second) i
+      outside c = renewed-kept once second room-once long₂ i c ∙ renewed-kept file first room long₁ i c ∙ sym (renewed-kept file second room long₂ i c)
+
+      data-byte : 84 ≤ i → i < 409684 → byte twice i ≡ byte (renewed file second) i
+      data-byte low high =
+          same-byte 84 409600 i twice (renewed file second) (renewed-inside once second room-once long₂ ∙ sym (renewed-inside file second room long₂)) low
+          (omega arith)
+
+  pub renewed-twice : renewed (renewed file first) second ≡ renewed file second
+  renewed-twice =
+      ext-getD 0 twice (renewed file second)
+      (renewed-length once second room-once long₂ ∙ renewed-length file first room long₁ ∙ sym (renewed-length file second room long₂))
+      (λ i h. twice-byte i)
 
 -- the four bytes of a number that was made of four bytes
 apart : (a b c d : ℕ) → a < 256 → b < 256 → c < 256 → d < 256 → bytes32 ((a * 256 + b) * 65536 + (c * 256 + d)) ≡ a ∷ b ∷ c ∷ d ∷ []

@@ -17,13 +17,13 @@ use Rattle.model.specs.declared.Fork.{Fork}
 use Rattle.laws.proofs.Alike.{Alike}
 use Rattle.laws.proofs.MapSteps.{forkWith, keptBlocks, freedBlocks, afterCut, Framed, cut-frame, cut-count, cut-changed, cut-own}
 use Rattle.laws.proofs.DirectorySteps.{shortened-step}
-use Rattle.laws.proofs.Refusals.{MayCut}
+use Rattle.laws.proofs.Refusals.{MayChangeFork}
 use Rattle.laws.proofs.Acceptance.{area, readable-of}
 use Rattle.laws.proofs.Bases.{based, alike-rewritten}
 use Rattle.laws.proofs.TheEntry.{theEntry, the-fork, Neighbours, neighbours}
 use Rattle.laws.proofs.Rewrites.{Rewritten, rewrite-accepted}
 
-module _ (image : List ℕ) (acc : Accepted image) (name : List ℕ) (fork : Fork) (n changed : ℕ) (m : MayCut image name fork n) where
+module _ (image : List ℕ) (acc : Accepted image) (name : List ℕ) (fork : Fork) (n changed : ℕ) (m : MayChangeFork image name fork n) where
   abbrev f : VolumeFacts
   f = factsOf image
 

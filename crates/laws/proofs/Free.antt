@@ -1,13 +1,14 @@
--- Free blocks: which they are, and that they and the held ones are N.
+-- Free blocks: which they are, that they and the held ones are N, and which are left once the lowest are taken.
 use mathlib.Core.Path.{_≡_, refl, sym, ap, _∙_}
 use mathlib.Core.List.{List, [], _∷_}
 use mathlib.Core.Bool.{Bool, true, false, cond}
 use Prim.Native.Nat.{ℕ, zero, suc, _+_, _≤_, _<_}
 use native.Mathlib.Omega.{arith}
 use native.Mathlib.Decide.{ℕ-discrete}
-use lib.ListN.{length, take}
+use lib.ListN.{length, take, drop}
+use lib.Seq.{drop-nil}
 use lib.Dec.{eqb}
-use borrow.Author.Tests.{eq-eqb, ne-eqb}
+use borrow.Author.Tests.{eqb-false, eq-eqb, ne-eqb}
 use Rattle.model.specs.Lists.{keep, from, times, flat}
 use Rattle.model.specs.Map.{freeBlocks}
 use Rattle.model.proofs.Times.{times-append, times-head, times-skip, times-tail, length-from}
@@ -157,3 +158,45 @@ free-count e n bss s =
           | yes z ↦ rw (eq-eqb (e b) 0 (s .rest b (i .0) (omega arith) z)) (omega arith)
           | no z ↦ let u = used e n bss b (s .linked) (omega arith) in rw (ne-eqb (e b) 0 (omega arith)) (omega (arith, s .once b))
         ]
+
+-- ---- once the lowest are taken
+
+-- e′ has the blocks of taken no more free, and all others as e
+record Takes (e e′ : ℕ → ℕ) (s m : ℕ) (taken : List ℕ) : Type 0 where
+  used : (b : ℕ) → 1 ≤ times b taken → e′ b ≡ 0 → ⊥
+  alike : (b : ℕ) → s ≤ b → b < s + m → times b taken ≡ 0 → eqb (e′ b) 0 ≡ eqb (e b) 0
+
+-- the same of the blocks behind the first
+takes-rest : (e e′ : ℕ → ℕ) (s m : ℕ) (taken : List ℕ) → Takes e e′ s (suc m) taken → Takes e e′ (suc s) m taken
+takes-rest e e′ s m taken h = record { used = h .used; alike = λ b l u z. h .alike b (omega arith) (omega arith) z }
+
+takes-next : (e e′ : ℕ → ℕ) (s m : ℕ) (taken : List ℕ) → Takes e e′ s (suc m) (s ∷ taken) → Takes e e′ (suc s) m taken
+takes-next e e′ s m taken h = record {
+  used = λ b p. h .used b (omega (arith, times-tail b s taken));
+  alike = λ b l u z. h .alike b (omega arith) (omega arith) (times-skip b s taken (omega arith) ∙ z);
+}
+
+among-dropped : (e e′ : ℕ → ℕ) (m s k : ℕ) → Takes e e′ s m (take k (freeAmong e (from m s))) → freeAmong e′ (from m s) ≡ drop k (freeAmong e (from m s))
+unfolding from keep times
+among-dropped e e′ zero s k h = sym (drop-nil k)
+among-dropped e e′ (suc m) s k h = go (eqb (e s) 0) refl k h (among-dropped e e′ m (suc s))
+  where
+    now : List ℕ
+    now = freeAmong e (from m (suc s))
+
+    go : (t : Bool) → eqb (e s) 0 ≡ t → (k : ℕ) → Takes e e′ s (suc m) (take k (cond t (s ∷ now) now))
+        → ((k : ℕ) → Takes e e′ (suc s) m (take k now) → freeAmong e′ (from m (suc s)) ≡ drop k now)
+        → cond (eqb (e′ s) 0) (s ∷ freeAmong e′ (from m (suc s))) (freeAmong e′ (from m (suc s))) ≡ drop k (cond t (s ∷ now) now)
+    go true q zero h ih = rw (h .alike s (omega arith) (omega arith) refl ∙ q) (ap (λ (l : List ℕ). s ∷ l) (ih zero (takes-rest e e′ s m [] h)))
+    go true q (suc k) h ih =
+        rw (ne-eqb (e′ s) 0 (h .used s (omega (arith, times-head s (take k now))))) (ih k (takes-next e e′ s m (take k now) h))
+    go false q k h ih =
+        let z = free-some e (from m (suc s)) s (eqb-false (e s) 0 q) in
+        let t = times-take s k now in
+        rw (h .alike s (omega arith) (omega arith) (omega arith) ∙ q) (ih k (takes-rest e e′ s m (take k now) h))
+
+-- where e′ leads on from each of the lowest k free blocks of e, and has all others as e, the others are free
+pub free-dropped : (e e′ : ℕ → ℕ) (n k : ℕ) → ((b : ℕ) → 1 ≤ times b (take k (freeBlocks e n)) → e′ b ≡ 0 → ⊥)
+    → ((b : ℕ) → 2 ≤ b → b < 2 + n → times b (take k (freeBlocks e n)) ≡ 0 → eqb (e′ b) 0 ≡ eqb (e b) 0) → freeBlocks e′ n ≡ drop k (freeBlocks e n)
+unfolding freeBlocks
+free-dropped e e′ n k h g = among-dropped e e′ n 2 k (record { used = h; alike = g })

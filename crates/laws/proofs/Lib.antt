@@ -30,5 +30,13 @@ pub mod Deletes
 pub mod Creates
 pub mod Renames
 pub mod BytesKept
+pub mod Twice
+pub mod Counts
+pub mod Stored
+pub mod WriteRefusals
+pub mod NextWrite
+pub mod TwoParts
+pub mod Parts
 pub mod Containers
 pub mod Wrapped
+pub mod WrappedParts

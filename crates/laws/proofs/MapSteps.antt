@@ -24,10 +24,10 @@ use Rattle.model.proofs.Times.{times-append}
 use Rattle.laws.proofs.Entries.{Clear, clear}
 use Rattle.laws.proofs.Sound.{held, held-append, Each, each-left, each-right, Linked, used, Sound, changed}
 use Rattle.laws.proofs.Chains.{Fields, length-forkBlocks, fields-blocks}
-use Rattle.laws.proofs.Joins.{InMap, New, write-sound, cut-sound, delete-sound, lowest-free, part-used, one-in-map, one-once}
+use Rattle.laws.proofs.Joins.{InMap, Once, New, write-sound, cut-sound, delete-sound, lowest-free, part-used, one-in-map, one-once, putChain-other}
 use Rattle.laws.proofs.Joins.{length-putChain, length-putFree, putChain-drop, putFree-drop, putChain-take, putFree-take, putChain-half, putFree-half}
-use Rattle.laws.proofs.Content.{byteOf, Inside, bytes-drop, put-others, put-clear, put-half, length-put, content-own, length-bytes, bytes-append}
-use Rattle.laws.proofs.Content.{overwritten-taken, bytes-cut, fewest-holds, fewest-least}
+use Rattle.laws.proofs.Content.{byteOf, Inside, same-drop, blocks-apart, bytes-drop, put-others, put-clear, put-half, length-put, content-own}
+use Rattle.laws.proofs.Content.{length-bytes, bytes-append, overwritten-taken, bytes-cut, fewest-holds, fewest-least}
 use Rattle.laws.proofs.MapChecks.{MapPasses, Fit, lists, Lists, free-length, to-lists, from-lists, fit-left, fit-right, reads, replaced, parted}
 use Rattle.laws.proofs.Alike.{Alike, alike-sound, alike-bytes, entries-frame, sound-frame}
 use Rattle.laws.proofs.Octets.{bytes-putChain, bytes-putFree, bytes-putContent}
@@ -65,6 +65,13 @@ pub record Framed (s : LogicalBlock) (a : ℕ) (bs l m : List ℕ) : Type 0 wher
   pub between : part 2048 (512 * s .0 - 2048) m ≡ part 2048 (512 * s .0 - 2048) l
   pub halves : (h : ℕ) → ((b : ℕ) → 1 ≤ times b bs → Within (byteOf s a b) a h → ⊥)
       → ((b : ℕ) → 1 ≤ times b bs → 2176 + 3 * (b - 2) ≤ h → h < 2179 + 3 * (b - 2) → ⊥) → half m h ≡ half l h
+
+-- what a write stores: in m the blocks bs are joined, and xs are put at o of their bytes in l; all other entries and blocks stay
+pub record BlocksStored (s : LogicalBlock) (a n : ℕ) (l m bs : List ℕ) (o : ℕ) (xs : List ℕ) : Type 0 where
+  pub chain : Linked (mapEntry m) n bs
+  pub entries : (b : ℕ) → 2 ≤ b → b ≤ 641 → times b bs ≡ 0 → mapEntry m b ≡ mapEntry l b
+  pub content : bytesOf s a m bs ≡ paste (bytesOf s a l bs) o xs (length xs)
+  pub others : (b : ℕ) → 2 ≤ b → times b bs ≡ 0 → part (byteOf s a b) a m ≡ part (byteOf s a b) a l
 
 clear-entry : (bs : List ℕ) (h : ℕ) → ((b : ℕ) → 1 ≤ times b bs → 2176 + 3 * (b - 2) ≤ h → h < 2179 + 3 * (b - 2) → ⊥)
     → (b : ℕ) → 1 ≤ times b bs → Clear (2176 + 3 * (b - 2)) (2179 + 3 * (b - 2)) h
@@ -131,14 +138,30 @@ module _ (s : LogicalBlock) (a n : ℕ) (l : List ℕ) (ar : Area s a n l) where
     stored-sound = sound-frame (mapEntry chained) (mapEntry stored) n (p ++ ((bs ++ r) ∷ t)) chained-sound
         λ b low high. entries-frame stored chained b (omega arith) (write-clear 1088 960 (λ x q. inl (omega arith)))
 
+    once : Once (bs ++ r)
+    once = one-once n (ar .few) (mapEntry chained) p t (bs ++ r) chained-sound
+
+    -- the blocks' own bytes, the other entries and the other blocks
+    stored-content : bytesOf s a stored (bs ++ r) ≡ paste (bytesOf s a l (bs ++ r)) o xs (length xs)
+    stored-content = content-own s a chained (bs ++ r) o xs lies once holds ∙ ap (λ x. paste x o xs (length xs)) (bytes-kept (bs ++ r))
+
+    stored-entries : (b : ℕ) → 2 ≤ b → b ≤ 641 → times b (bs ++ r) ≡ 0 → mapEntry stored b ≡ mapEntry l b
+    stored-entries b low high z =
+        entries-frame stored chained b high (write-clear 1088 960 (λ x q. inl (omega arith)))
+        ∙ putChain-other n (ar .few) l (bs ++ r) b (omega arith) within low z
+
+    stored-blocks : (b : ℕ) → 2 ≤ b → times b (bs ++ r) ≡ 0 → part (byteOf s a b) a stored ≡ part (byteOf s a b) a l
+    stored-blocks b low z =
+        write-clear (byteOf s a b) a (λ x q. blocks-apart s a b x low (within x q .0) (λ e. omega (arith, ap (λ y. times y (bs ++ r)) e)))
+        ∙ ap (take a) (same-drop 2048 (byteOf s a b) chained l (omega arith) (putChain-drop n (ar .few) l (bs ++ r) within))
+
     -- the fork's bytes are the old ones with the written part replaced
     stored-own : take (grown m o (length xs)) (bytesOf s a stored (bs ++ r)) ≡ overwritten (take m (bytesOf s a l bs)) o xs
     unfolding grown
     stored-own =
         let i = inside l bs refl (one-in-map n (ar .few) (mapEntry l) p t bs h) in
         let k = length-bytes s a l bs i in
-        let c = content-own s a chained (bs ++ r) o xs lies (one-once n (ar .few) (mapEntry chained) p t (bs ++ r) chained-sound) holds in
-        ap (take (max m (o + length xs))) (c ∙ ap (λ x. paste x o xs (length xs)) (bytes-kept (bs ++ r) ∙ bytes-append s a l bs r))
+        ap (take (max m (o + length xs))) (stored-content ∙ ap (λ x. paste x o xs (length xs)) (bytes-append s a l bs r))
         ∙ overwritten-taken (bytesOf s a l bs ++ bytesOf s a l r) o m xs at (omega (arith, length-append (bytesOf s a l bs) (bytesOf s a l r)))
         ∙ ap (λ x. overwritten x o xs) (take-append-le m (bytesOf s a l bs) (bytesOf s a l r) (omega arith))
 
@@ -288,7 +311,7 @@ module _ (s : LogicalBlock) (a n free : ℕ) (l : List ℕ) (ar : Area s a n l) 
     unfolding Fit
     old-fields = fit-right (mapEntry l) a p (g ∷ t) (to-lists (mapEntry l) n a free (p ++ (g ∷ t)) h .fits) .0
 
-    old-linked : Linked (mapEntry l) n old
+    pub old-linked : Linked (mapEntry l) n (forkBlocks (mapEntry l) a g)
     unfolding Each
     old-linked = each-right (Linked (mapEntry l) n) (lists (mapEntry l) a p) (old ∷ lists (mapEntry l) a t) (old-sound .linked) .0
 
@@ -317,16 +340,16 @@ module _ (s : LogicalBlock) (a n free : ℕ) (l : List ℕ) (ar : Area s a n l) 
       length-new : length new ≡ need
       length-new = length-take-le need (freeBlocks (mapEntry l) n) (omega (arith, free-length (mapEntry l) n a free (p ++ (g ∷ t)) h))
 
-      length-after : length (old ++ new) ≡ length old + need
-      length-after = omega (arith, length-append old new, length-new)
+      pub write-length : length (blocksAfter (mapEntry l) n a g o xs) ≡ length (forkBlocks (mapEntry l) a g) + newCount (mapEntry l) a g o xs
+      write-length = omega (arith, length-append old new, length-new)
 
-      holds : size ≤ length (old ++ new) * a
+      pub write-holds : sizeAfter g o xs ≤ length (blocksAfter (mapEntry l) n a g o xs) * a
       unfolding needed
-      holds =
+      write-holds =
           omega (
             arith,
             fewest-holds size a (ar .some),
-            mul-le-mul-right {m = fewest size a} {n = length (old ++ new)} a (omega (arith, length-after)),
+            mul-le-mul-right {m = fewest size a} {n = length (old ++ new)} a (omega (arith, write-length)),
           )
 
       new-free : New n (ar .few) (mapEntry l) new
@@ -337,17 +360,17 @@ module _ (s : LogicalBlock) (a n free : ℕ) (l : List ℕ) (ar : Area s a n l) 
 
       room : o + length xs ≤ length (old ++ new) * a
       unfolding grown
-      room = omega (arith, holds)
+      room = omega (arith, write-holds)
 
       fields : Fields a (forkWith a size (old ++ new)) (old ++ new)
-      fields = record { start = refl; physical = refl; logical = holds }
+      fields = record { start = refl; physical = refl; logical = write-holds }
 
       write-lists : (l″ : List ℕ) → Alike s l″ image
           → Lists (mapEntry l″) n a (free - need) (p ++ (forkWith a size (old ++ new) ∷ t)) (lists (mapEntry l) a p ++ ((old ++ new) ∷ lists (mapEntry l) a t))
       unfolding Fit flat
       write-lists l″ k =
           replaced (mapEntry l) (mapEntry l″) n a free (free - need) p (g ∷ []) (forkWith a size (old ++ new) ∷ []) t ((old ++ new) ∷ []) h (fields, tt)
-          (omega (arith, length-append (old ++ new) [], length-append old [], length-after))
+          (omega (arith, length-append (old ++ new) [], length-append old [], write-length))
           (alike-sound s n l″ image _ (ar .few) k
           (stored-sound s a n l ar (lists (mapEntry l) a p) (lists (mapEntry l) a t) old new old-sound new-free (g .logical) o xs fits at room))
 
@@ -356,9 +379,15 @@ module _ (s : LogicalBlock) (a n free : ℕ) (l : List ℕ) (ar : Area s a n l) 
       pub write-frame : Framed s a (blocksAfter (mapEntry l) n a g o xs) l (afterWrite s a n l g o xs)
       write-frame = stored-frame s a n l ar (lists (mapEntry l) a p) (lists (mapEntry l) a t) old new old-sound new-free (g .logical) o xs fits at room
 
-      pub write-count : blockCount a (forkWith a (sizeAfter g o xs) (blocksAfter (mapEntry l) n a g o xs)) ≡ blockCount a g + needed a (sizeAfter g o xs)
-          (blockCount a g)
-      write-count = count-with a size (old ++ new) (ar .some) ∙ length-after ∙ ap (λ k. k + needed a size k) (length-forkBlocks (mapEntry l) a g)
+      pub write-once : Once (blocksAfter (mapEntry l) n a g o xs)
+      write-once = once s a n l ar (lists (mapEntry l) a p) (lists (mapEntry l) a t) old new old-sound new-free (g .logical) o xs fits at room
+
+      pub write-inside : Inside s a l (blocksAfter (mapEntry l) n a g o xs)
+      write-inside = inside s a n l ar l (old ++ new) refl
+          (within s a n l ar (lists (mapEntry l) a p) (lists (mapEntry l) a t) old new old-sound new-free (g .logical) o xs fits at room)
+
+      pub write-count : blockCount a (forkWith a (sizeAfter g o xs) (blocksAfter (mapEntry l) n a g o xs)) ≡ blockCount a g + newCount (mapEntry l) a g o xs
+      write-count = count-with a size (old ++ new) (ar .some) ∙ write-length ∙ ap (λ k. k + need) (length-forkBlocks (mapEntry l) a g)
 
       pub write-bytes : Bytes l → Bytes xs → Bytes (afterWrite s a n l g o xs)
       write-bytes b c =
@@ -377,6 +406,18 @@ module _ (s : LogicalBlock) (a n free : ℕ) (l : List ℕ) (ar : Area s a n l) 
         unfolding Each
         after-linked =
             each-right (Linked (mapEntry l″) n) (lists (mapEntry l) a p) ((old ++ new) ∷ lists (mapEntry l) a t) (write-lists l″ k .sound .linked) .0
+
+        pub write-stores : BlocksStored s a n l l″ (blocksAfter (mapEntry l) n a g o xs) o xs
+        write-stores =
+            let e = stored-entries s a n l ar (lists (mapEntry l) a p) (lists (mapEntry l) a t) old new old-sound new-free (g .logical) o xs fits at room in
+            let c = stored-content s a n l ar (lists (mapEntry l) a p) (lists (mapEntry l) a t) old new old-sound new-free (g .logical) o xs fits at room in
+            let b = stored-blocks s a n l ar (lists (mapEntry l) a p) (lists (mapEntry l) a t) old new old-sound new-free (g .logical) o xs fits at room in
+            record {
+              chain = after-linked;
+              entries = λ x low high z. entries-frame l″ image x high (k .entries) ∙ e x low high z;
+              content = alike-bytes s a l″ image (old ++ new) k ∙ c;
+              others = λ x low z. ap (take a) (same-drop (512 * s .0) (byteOf s a x) l″ image (omega arith) (k .blocks)) ∙ b x low z;
+            }
 
         pub write-blocks : forkBlocks (mapEntry l″) a (forkWith a (sizeAfter g o xs) (blocksAfter (mapEntry l) n a g o xs)) ≡ blocksAfter
             (mapEntry l) n a g o xs

@@ -18,7 +18,7 @@ use Rattle.model.specs.Calls.{sameSize, removed, change, after}
 use Rattle.model.specs.Calls.Call.{create, write, cut, delete, rename}
 use Rattle.model.specs.declared.Fork.{Fork}
 use Rattle.model.proofs.Lists.{or-false}
-use Rattle.model.proofs.Check.{else-zero, accepted-verdict}
+use Rattle.model.proofs.Check.{else-zero, verdict-accepted, accepted-verdict}
 use Rattle.laws.proofs.Calls.{by-own}
 
 -- ---- the image that a call leaves
@@ -165,15 +165,19 @@ pub record MayChangeFile (image name : List ℕ) : Type 0 where
   pub exists : any (named name) (directory image) ≡ true
   pub fileUnlocked : flagsLock (byte (entryNamed name image) 0) ≡ false
 
+-- the new blocks that a write of count bytes needs, as its refusal 17 asks
+abbrev pub needs : List ℕ → List ℕ → Fork → ℕ → ℕ → ℕ
+needs image name fork offset count =
+    let a = A (factsOf image) in
+    let g = forkOf fork (entryNamed name image) in
+    needed a (grown (g .logical) offset count) (blockCount a g)
+
 pub record MayWrite (image name : List ℕ) (fork : Fork) (offset count : ℕ) : Type 0 where
   pub file : MayChangeFile image name
   pub within : offset ≤ forkOf fork (entryNamed name image) .logical
-  pub room :
-      needed (A (factsOf image)) (grown (forkOf fork (entryNamed name image) .logical) offset count)
-      (blockCount (A (factsOf image)) (forkOf fork (entryNamed name image)))
-      ≤ freeCount (factsOf image)
+  pub room : needs image name fork offset count ≤ freeCount (factsOf image)
 
-pub record MayCut (image name : List ℕ) (fork : Fork) (size : ℕ) : Type 0 where
+pub record MayChangeFork (image name : List ℕ) (fork : Fork) (size : ℕ) : Type 0 where
   pub file : MayChangeFile image name
   pub within : size ≤ forkOf fork (entryNamed name image) .logical
 
@@ -195,6 +199,11 @@ module _ (image : List ℕ) where
   own-zero : (call : Call) → refusal call image ≡ 0 → refuses call (knownIn image (nameOf call) (forkGiven call)) ≡ 0
   unfolding refusal
   own-zero call z = both-zero (checks call image) _ z .1
+
+  -- an image on which a call that checks 1 to 10 first is not refused is accepted
+  pub served-accepted : (call : Call) → checks call image ≡ verdict image → refusal call image ≡ 0 → Accepted image
+  unfolding refusal
+  served-accepted call c z = verdict-accepted image (sym c ∙ both-zero (checks call image) _ z .0)
 
   pub may-create : (name finder : List ℕ) (created changed : ℕ) → refusal (create name finder created changed) image ≡ 0 → MayCreate image name
   unfolding refuses knownIn nameOf forkGiven
@@ -238,7 +247,7 @@ module _ (image : List ℕ) where
       let p₆ = else-zero (ltb (freeCount f) need) 16 0 (p₅ .1) in
       record { file = s .0; within = ltb-false (g .logical) offset (p₅ .0); room = ltb-false (freeCount f) need (p₆ .0) }
 
-  pub may-cut : (name : List ℕ) (fork : Fork) (size changed : ℕ) → refusal (cut name fork size changed) image ≡ 0 → MayCut image name fork size
+  pub may-cut : (name : List ℕ) (fork : Fork) (size changed : ℕ) → refusal (cut name fork size changed) image ≡ 0 → MayChangeFork image name fork size
   unfolding refuses knownIn nameOf forkGiven
   may-cut name fork size changed z =
       let g = forkOf fork (entryNamed name image) in

@@ -81,7 +81,7 @@ pub record Used (e : ℕ → ℕ) (n b : ℕ) : Type 0 where
   pub some : 1 ≤ e b
   pub good : e b ≤ n + 1
 
-linked-used : (e : ℕ → ℕ) (n : ℕ) (bs : List ℕ) (b : ℕ) → Linked e n bs → 1 ≤ times b bs → Used e n b
+pub linked-used : (e : ℕ → ℕ) (n : ℕ) (bs : List ℕ) (b : ℕ) → Linked e n bs → 1 ≤ times b bs → Used e n b
 unfolding Linked times
 linked-used e n [] b h p = absurd (omega arith)
 linked-used e n (x ∷ bs) b h p =

@@ -5,8 +5,8 @@ use mathlib.Core.List.{List, [], _∷_, _++_, append-assoc}
 use native.Mathlib.Omega.{arith}
 use native.Mathlib.Nat.{add-suc, suc-add, add-zero, zero-add, add-assoc}
 use lib.ListN.{length, set, take, drop, length-set, length-take, length-drop, List·getD-append}
-use lib.Seq.{sets, paste, getD-set-same, getD-set-other, drop-set-lt, take-set-le, getD-append-add, drop-append-add, take-nil, length-take-le, getD-take}
-use lib.Seq.{getD-drop, drop-paste, take-append-le, take-take, ext-getD}
+use lib.Seq.{sets, paste, set-set, set-comm, getD-set-same, getD-set-other, drop-set-lt, take-set-le, getD-append-add, drop-append-add, take-nil}
+use lib.Seq.{length-take-le, getD-take, getD-drop, drop-paste, take-append-le, take-take, ext-getD}
 use Rattle.model.specs.Bytes.{byte, be16, be32, bytes16, bytes32, part, half}
 
 -- ---- a run of stores
@@ -31,6 +31,27 @@ drop-sets (v ∷ vs) l i n h = drop-sets vs (set l i v) (suc i) n (omega arith) 
 pub take-sets : (vs l : List ℕ) (i n : ℕ) → n ≤ i → take n (sets l i vs) ≡ take n l
 take-sets [] l i n h = refl
 take-sets (v ∷ vs) l i n h = take-sets vs (set l i v) (suc i) n (omega arith) ∙ take-set-le n l i v (omega arith)
+
+-- stores over stores
+set-sets : (vs l : List ℕ) (i j v : ℕ) → j < i → set (sets l i vs) j v ≡ sets (set l j v) i vs
+set-sets [] l i j v h = refl
+set-sets (w ∷ vs) l i j v h =
+    set-sets vs (set l i w) (suc i) j v (omega arith) ∙ ap (λ (m : List ℕ). sets m (suc i) vs) (set-comm l i j w v (omega arith))
+
+-- stores before others may come first
+pub sets-comm : (ys vs l : List ℕ) (i p : ℕ) → p + length ys ≤ i → sets (sets l i vs) p ys ≡ sets (sets l p ys) i vs
+sets-comm [] vs l i p h = refl
+sets-comm (y ∷ ys) vs l i p h =
+    ap (λ (m : List ℕ). sets m (suc p) ys) (set-sets vs l i p y (omega arith)) ∙ sets-comm ys vs (set l p y) i (suc p) (omega arith)
+
+-- as many stores at the same place
+pub sets-sets : (xs ys l : List ℕ) (i : ℕ) → length xs ≡ length ys → sets (sets l i xs) i ys ≡ sets l i ys
+sets-sets [] [] l i h = refl
+sets-sets [] (y ∷ ys) l i h = absurd (omega arith)
+sets-sets (x ∷ xs) [] l i h = absurd (omega arith)
+sets-sets (x ∷ xs) (y ∷ ys) l i h =
+    ap (λ (m : List ℕ). sets m (suc i) ys) (set-sets xs (set l i x) (suc i) i y (omega arith) ∙ ap (λ (m : List ℕ). sets m (suc i) xs) (set-set l i x y))
+    ∙ sets-sets xs ys (set l i y) (suc i) (omega arith)
 
 -- ---- a copy
 

@@ -1,5 +1,5 @@
 -- A write that is not refused: what it stores, what its fork has then, and that the image is accepted.
-use Prim.Native.Nat.{ℕ, _+_, _-_, _≤_, max}
+use Prim.Native.Nat.{ℕ, _+_, _-_, _*_, _≤_, max}
 use mathlib.Core.Path.{_≡_, sym, ap, subst, _∙_}
 use mathlib.Core.Bool.{true}
 use mathlib.Core.List.{List}
@@ -16,10 +16,13 @@ use Rattle.model.specs.Calls.Call.{write}
 use Rattle.model.specs.declared.VolumeFacts.{VolumeFacts}
 use Rattle.model.specs.declared.ForkFacts.{ForkFacts}
 use Rattle.model.specs.declared.Fork.{Fork}
-use Rattle.laws.proofs.Content.{length-overwritten}
+use Rattle.laws.proofs.Sound.{Linked}
+use Rattle.laws.proofs.Joins.{Once}
+use Rattle.laws.proofs.Content.{Inside, length-overwritten}
 use Rattle.laws.proofs.Alike.{Alike}
 use Rattle.laws.proofs.MapSteps.{forkWith, sizeAfter, newCount, blocksAfter, afterWrite, new-count, Framed, length-forkBytes}
 use Rattle.laws.proofs.MapSteps.{write-frame, write-count, write-changed, write-blocks, write-own}
+use Rattle.laws.proofs.MapSteps.{BlocksStored, old-linked, write-length, write-holds, write-once, write-inside, write-stores}
 use Rattle.laws.proofs.DirectorySteps.{written-step}
 use Rattle.laws.proofs.Refusals.{MayWrite}
 use Rattle.laws.proofs.Acceptance.{area, readable-of}
@@ -67,16 +70,18 @@ module _ (image : List ℕ) (acc : Accepted image) (name : List ℕ) (fork : For
   at : o ≤ its .logical
   at = subst (λ (g : ForkFacts). o ≤ g .logical) (the-fork image acc name there fork) (m .within)
 
-  enough : newCount (mapEntry image) (A f) its o xs ≤ freeCount f
+  -- the new blocks are free
+  pub enough : newCount (mapEntry image) (A f) its o xs ≤ freeCount f
   enough =
       let need : ForkFacts → ℕ = λ g. needed (A f) (grown (g .logical) o (length xs)) (blockCount (A f) g) in
       let p = subst (λ (g : ForkFacts). need g ≤ freeCount f) (the-fork image acc name there fork) (m .room) in
       omega (arith, p, new-count (mapEntry image) (A f) its o xs)
 
-  abbrev base : List ℕ
+  -- the image before the directory's and the count's stores
+  abbrev pub base : List ℕ
   base = afterWrite (S f) (A f) (N f) image its o xs
 
-  frame : Framed (S f) (A f) all image base
+  pub frame : Framed (S f) (A f) all image base
   frame = write-frame (S f) (A f) (N f) (freeCount f) image (area image acc) (near .before) (near .behind) its (near .passes) o xs at enough
 
   alike : Alike (S f) left base
@@ -98,13 +103,36 @@ module _ (image : List ℕ) (acc : Accepted image) (name : List ℕ) (fork : For
   pub now-bytes : forkBytes (S f) (A f) left (forkWith (A f) (sizeAfter its o xs) all) ≡ overwritten (forkBytes (S f) (A f) image its) o xs
   now-bytes = write-own (S f) (A f) (N f) (freeCount f) image (area image acc) (near .before) (near .behind) its (near .passes) o xs at enough left alike
 
+  pub now-many : blockCount (A f) (forkWith (A f) (sizeAfter its o xs) all) ≡ blockCount (A f) its + newCount (mapEntry image) (A f) its o xs
+  now-many = write-count (S f) (A f) (N f) (freeCount f) image (area image acc) (near .before) (near .behind) its (near .passes) o xs at enough
+
   pub now-count : blockCount (A f) (forkWith (A f) (sizeAfter its o xs) all)
       ≡ max (blockCount (A f) its) (fewest (length (overwritten (forkBytes (S f) (A f) image its) o xs)) (A f))
   now-count =
-      let ar = area image acc in
-      write-count (S f) (A f) (N f) (freeCount f) image ar (near .before) (near .behind) its (near .passes) o xs at enough
-      ∙ rises (forkBytes (S f) (A f) image its) (its .logical) o xs (A f) (blockCount (A f) its)
-      (length-forkBytes (S f) (A f) (N f) (freeCount f) image ar (near .before) (near .behind) its (near .passes)) at
+      let count = blockCount (A f) its in
+      now-many
+      ∙ ap (λ (k : ℕ). count + k) (new-count (mapEntry image) (A f) its o xs)
+      ∙ rises (forkBytes (S f) (A f) image its) (its .logical) o xs (A f) count
+      (length-forkBytes (S f) (A f) (N f) (freeCount f) image (area image acc) (near .before) (near .behind) its (near .passes)) at
 
   pub now-blocks : forkBlocks (mapEntry left) (A f) (forkWith (A f) (sizeAfter its o xs) all) ≡ all
   now-blocks = write-blocks (S f) (A f) (N f) (freeCount f) image (area image acc) (near .before) (near .behind) its (near .passes) o xs at enough left alike
+
+  -- what is stored in the map and the blocks; the blocks are none twice, in the image, and hold the fork's bytes
+  pub now-stores : BlocksStored (S f) (A f) (N f) image left all o xs
+  now-stores = write-stores (S f) (A f) (N f) (freeCount f) image (area image acc) (near .before) (near .behind) its (near .passes) o xs at enough left alike
+
+  pub now-once : Once all
+  now-once = write-once (S f) (A f) (N f) (freeCount f) image (area image acc) (near .before) (near .behind) its (near .passes) o xs at enough
+
+  pub now-inside : Inside (S f) (A f) image all
+  now-inside = write-inside (S f) (A f) (N f) (freeCount f) image (area image acc) (near .before) (near .behind) its (near .passes) o xs at enough
+
+  pub now-holds : sizeAfter its o xs ≤ length all * A f
+  now-holds = write-holds (S f) (A f) (N f) (freeCount f) image (area image acc) (near .before) (near .behind) its (near .passes) o xs at enough
+
+  pub now-length : length all ≡ length (forkBlocks (mapEntry image) (A f) its) + newCount (mapEntry image) (A f) its o xs
+  now-length = write-length (S f) (A f) (N f) (freeCount f) image (area image acc) (near .before) (near .behind) its (near .passes) o xs at enough
+
+  pub was-linked : Linked (mapEntry image) (N f) (forkBlocks (mapEntry image) (A f) its)
+  was-linked = old-linked (S f) (A f) (N f) (freeCount f) image (area image acc) (near .before) (near .behind) its (near .passes)
