@@ -22,6 +22,7 @@ import chooser
 import hall
 import listing
 import maker
+import parts
 import renames
 import replay
 import spelling
@@ -37,7 +38,7 @@ NINE = replay.NINE
 ALL = replay.ALL
 
 # stdin has fewer bytes than this
-LARGEST = {'reading': 4000000, 'all': 17400000}
+LARGEST = {'reading': 4000000, 'all': 19500000}
 FEWEST_CALLS = {'reading': 2000, 'all': 6000}
 FEWEST_EACH = 10
 
@@ -439,6 +440,7 @@ def all_list():
     long_names_changes(tape, 10)
     accents.runs(tape)
     renames.runs(tape)
+    parts.runs(tape)
     large_changes(tape)
     wrapped_runs.runs(tape)
     return tape

@@ -5,9 +5,10 @@ every call the image must be accepted, must read as a plain history says, and
 must equal, byte for byte, what the maker's writer gives for the same change
 made in plain lists.  Names at the edges of 12, 21 and 14, old long names and
 accented names run so too, disks inside wrapped files, renames worked by hand,
-and the cases P1 to P12.
+writes in parts beside the same in one piece, and the cases P1 to P12.
 """
 
+from collections import Counter
 import random
 import struct
 import sys
@@ -22,6 +23,8 @@ import generate
 import hall
 import listing
 import maker
+import part_notes
+import parts
 import replay
 import spelling
 import volume
@@ -1180,6 +1183,147 @@ class Renames(unittest.TestCase):
         bare = replay.replay(replay.image(image) + record)
         self.assertEqual(bare[:4], b'M 0 ')
         self.assertEqual(replay.replay(replay.wrapped(image) + record), bare)
+
+
+class Parts(unittest.TestCase):
+    """T-06 of document 02.  By chance each write and its parts are held to the
+    history and the plain lists too."""
+
+    def on_hall(self, offset, lengths, numbers):
+        """The parts of a write in WEEK1 give these numbers; gives the image
+        after them."""
+        image = hall.hall()
+        call = parts.Write('W', b'WEEK1', 0, offset, bytes(
+            i % 251 + 1 for i in range(sum(lengths))), 7)
+        self.assertEqual([volume.write(image, *part[1:]) for part
+                          in parts.parts_of(call, lengths)], numbers)
+        return image
+
+    def test_hall_fits(self):
+        """P4: four blocks, 2, 4, 5 and 6, none free."""
+        whole = self.on_hall(700, [1348], [0])
+        self.assertEqual(whole[1088:1096], words('0040010050060010'))
+        self.assertEqual(whole[1024 + 34:1024 + 36], bytes(2))
+        self.assertEqual(whole[2048 + 24:2048 + 32], words('00000800' * 2))
+        self.assertEqual(whole[2048 + 46:2048 + 50], words('00000007'))
+        for lengths in ([34] * 39 + [22], [1] * 39 + [1309], [1309] + [1] * 39,
+                        [0] * 39 + [1348], [1348] + [0] * 39, [324, 512, 512],
+                        [325, 511, 512], [323, 513, 512], [400, 948],
+                        [0, 0, 836, 0, 512, 0]):
+            image = self.on_hall(700, lengths, [0] * len(lengths))
+            self.assertEqual(image, whole, lengths)
+
+    def test_hall_too_long(self):
+        """P5: one byte more."""
+        for lengths, numbers, before in (
+                ([1349], [17], None), ([400, 949], [0, 17], [400]),
+                ([1349, 0], [17, 16], None), ([0, 1349], [0, 17], [0]),
+                ([1348, 1], [0, 17], [1348]),
+                ([1348, 0, 1, 0], [0, 0, 17, 16], [1348]),
+                ([325, 1000, 24], [0, 0, 17], [1325]),
+                ([512, 837, 0, 0], [0, 17, 16, 16], [512]),
+                ([34] * 39 + [23], [0] * 39 + [17], [1326])):
+            image = self.on_hall(700, lengths, numbers)
+            if before is None:
+                self.assertEqual(image, hall.hall())
+            else:
+                self.assertEqual(image, self.on_hall(700, before, [0]))
+
+    def test_hall_above(self):
+        """P6: only the date at 700, and 16 at 701."""
+        dated = self.on_hall(700, [0], [0])
+        self.assertEqual(self.on_hall(700, [0] * 40, [0] * 40), dated)
+        for lengths in ([0], [1], [0, 0, 0], [0, 1, 0], [34] * 40):
+            image = self.on_hall(701, lengths, [16] * len(lengths))
+            self.assertEqual(image, hall.hall())
+
+    def test_sentences(self):
+        for number, numbers, alike, want in (
+                (0, [0], True, True), (0, [0, 0, 0], True, True),
+                (0, [0, 0], False, False), (0, [0, 17], True, False),
+                (0, [16, 0], True, False), (17, [17], True, True),
+                (17, [0, 0, 17, 16], False, True), (17, [0, 0], False, False),
+                (17, [0, 16, 17], False, False), (17, [16], True, False),
+                (13, [13], True, True), (13, [0, 13], False, False),
+                (16, [17, 16], True, False), (1, [2, 1], True, False)):
+            self.assertEqual(parts.sentences(number, numbers, alike), want,
+                             (number, numbers))
+        for number, numbers, want in (
+                (0, [0, 0], True), (17, [17], True), (17, [0, 17, 16], True),
+                (17, [17, 17], False), (17, [17, 0], False),
+                (13, [13, 13], True), (13, [13, 0], False)):
+            self.assertEqual(parts.behind(number, numbers), want,
+                             (number, numbers))
+
+    def both_ways(self, start, call, lengths):
+        """Start gives a new run on the same volume each time.  Gives what the
+        single write gave and, for 17, which part met it."""
+        self.assertEqual(sum(lengths), len(call.data))
+        self.assertTrue(1 <= len(lengths) <= 40)
+        single, parted = start(), start()
+        number = single.call(*call)
+        numbers = [parted.call(*part)
+                   for part in parts.parts_of(call, lengths)]
+        self.assertTrue(parts.sentences(number, numbers,
+                                        single.image == parted.image))
+        self.assertTrue(parts.behind(number, numbers))
+        if number not in (0, 17):
+            self.assertEqual(parted.image, single.image)
+            return number
+        room = part_notes.Room(start().inside(), call, lengths)
+        at = numbers.index(17) if number else len(numbers)
+        self.assertEqual(parted.history.free(), room.free - sum(room.new[:at]))
+        if number == 0:
+            return 0
+        if at:
+            # the parts before it leave what they leave in one piece
+            done = call._replace(data=call.data[:sum(lengths[:at])])
+            self.assertEqual(single.call(*done), 0)
+        self.assertEqual(parted.image, single.image)
+        return next(room.refused(numbers))
+
+    def test_by_chance(self):
+        rng = random.Random(SEED + 13)
+        seen = Counter()
+        aims = sum(parts.FITTING, ()) + parts.TOO_LONG * 2
+        for i in range(300):
+            per, n = ((1, 4), (1, 6), (2, 3), (1, 5), (3, 2))[i % 5]
+            m = parts.small(rng, (range(n), range(3))[i % 2], per=per, n=n)
+            call, lengths = parts.write_in(rng, chooser.state_of_made(m),
+                                           rng.choice(aims))
+            seen[self.both_ways(lambda: Run(m.copy()), call, lengths)] += 1
+        for i in range(120):
+            m = parts.small(rng, range(3), locked=i % 6 == 0, file_locks=0.3)
+            call, lengths = parts.any_write(rng, chooser.state_of_made(m))
+            seen[self.both_ways(lambda: Run(m.copy()), call, lengths)] += 1
+        for what in (0, 11, 12, 13, 15, 16, 'only part', 'middle part',
+                     'first of several parts', 'last of several parts'):
+            self.assertGreaterEqual(seen[what], 5, what)
+
+    def test_damage(self):
+        rng = random.Random(SEED + 14)
+        for kind in maker.DAMAGES:
+            m = maker.damaged(rng, kind)
+            image = m.image()
+            before = bytes(image)
+            for _ in range(3):
+                call, lengths = parts.any_write(rng, chooser.state_of_made(m))
+                for part in parts.parts_of(call, lengths):
+                    self.assertEqual(volume.write(image, *part[1:]), kind[0])
+            self.assertEqual(bytes(image), before)
+
+    def test_wrapped(self):
+        rng = random.Random(SEED + 15)
+        seen = Counter()
+        for i in range(8):
+            m = maker.disk_400k(rng, base='sparse', file_locks=0, per=64, n=12,
+                                s=20, full_disk=i % 2 == 1)
+            around = wrapper.Wrapper(rng, tags=i % 4 > 1)
+            aim = rng.choice(parts.TOO_LONG if i % 2 else parts.FITTING[0])
+            call, lengths = parts.write_in(rng, chooser.state_of_made(m), aim)
+            seen[self.both_ways(lambda: WrappedRun(m.copy(), around), call,
+                                lengths)] += 1
+        self.assertGreaterEqual(min(seen[0], sum(seen.values()) - seen[0]), 3)
 
 
 def load_tests(loader, tests, pattern):

@@ -7,6 +7,7 @@ import accent_notes
 import chooser
 import diskcopy
 import maker
+import part_notes
 import rename_notes
 import replay
 import volume
@@ -35,6 +36,7 @@ MUST_MEET = (['create: ' + text for text in CREATES]
              + ['wrap: ' + text for text in WRAPS]
              + ['changed: ' + text for text in CHANGES]
              + ['rename: ' + text for text in rename_notes.TEXTS]
+             + ['parts: ' + text for text in part_notes.TEXTS]
              + ['accents: ' + text for text in accent_notes.TEXTS])
 
 

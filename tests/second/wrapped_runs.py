@@ -11,6 +11,7 @@ import chooser
 import diskcopy
 import hall
 import maker
+import parts
 import replay
 import volume
 import water
@@ -30,13 +31,14 @@ def wrap_call(rng, name_length=None, length=ROOM):
 # Refused files
 
 def refused(tape, rng, number, text, file, m, rounds):
-    """The nine calls, each of which gives this number, and a wrap and a
-    rename, for which the file is an image of wrong length."""
+    """The nine calls, each of which gives this number, a write in parts too,
+    and a wrap and a rename, for which the file is an image of wrong length."""
     tape.add('X', file)
     state = chooser.state_of_made(m)
     for tag in NINE * rounds:
         tape.some(rng, tag, state)
         tape.expect(number, text)
+    parts.refused_file(tape, number, state, 5)
     tape.add(*wrap_call(rng))
     tape.gives(1, *chooser.choose(rng, state, 'M'))
 
@@ -104,7 +106,8 @@ def without_tags(tape):
     for turn in range(24):
         tape.fill_fork(rng, turn)
         tape.some(rng, 'BR' + 'UU' * (turn % 6 == 5))
-    tape.some(rng, [rng.choice('CEFBBBRNNWWWWUUDD') for _ in range(700)])
+    parts.on_a_disk(tape, parts.TOO_LONG * 2)
+    tape.some(rng, [rng.choice('CEFBBBRNNWWWWUUDD') for _ in range(750)])
     refused_renames(tape, rng)
     for turn in range(8):
         for length in rng.sample((31, 31, 31, 1, 30, 20, 1, 2, 27, 24), 7):
@@ -122,6 +125,7 @@ def with_tags(tape):
     tape.some(rng, [rng.choice('CEFFBBRRNNNWWWWUUUDD') for _ in range(1000)])
     tape.add('C')
     accents.on_a_disk(tape)
+    parts.on_a_disk(tape, parts.FITTING[0] + parts.FITTING[1])
     refused_renames(tape, rng)
 
 
@@ -137,6 +141,7 @@ def last_numbers(tape):
         tape.create_new(rng, length)
         tape.some(rng, 'EFW')
     tape.some(rng, [rng.choice('CEFBRNNWWWUUD') for _ in range(300)])
+    parts.on_a_disk(tape, parts.FITTING[3])
     tape.add('C')
 
 
@@ -145,6 +150,7 @@ def locked(tape):
     m = maker.disk_400k(rng, locked=True)
     tape.add('X', wrapper.Wrapper(rng, name_length=1).file(m.image()))
     tape.some(rng, 'CNEWFUBDR' * 14 + 'NWUDC')
+    parts.refused_file(tape, 11, chooser.state_of_made(m), 12)
 
 
 # Wrap
