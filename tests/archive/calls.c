@@ -1,6 +1,6 @@
 /*
- * The calls of the archive on known answers: document 01's disk HALL, its P cases, and each number that a call can give. Each
- * test is made on the image by itself and on it in wrapped files. Then the tests of rename.c and wrapped.c.
+ * The calls of the archive on known answers: document 01's disk HALL, its P cases, each number that a call can give, and writes
+ * in parts. Each test is made on the image by itself and on it in wrapped files. Then the tests of rename.c and wrapped.c.
  * usage: calls HALL-IMAGE. A line for each test; exit status 1 where one fails.
  */
 #include "support.h"
@@ -335,6 +335,111 @@ static void fork_numbers(void)
     }
 }
 
+/* ---- the tests: a write in parts */
+
+#define PARTS 40
+
+/* Bytes to write: 1,348 of them fill HALL from WEEK1's end on. */
+static const uint8_t *week(void)
+{
+    static uint8_t bytes[1349];
+    size_t i;
+
+    for (i = 0; i < sizeof bytes; i++)
+        bytes[i] = (uint8_t)(i * 7 + i / 256 + 1);
+    return bytes;
+}
+
+/* One write, and on HALL again its parts, one behind the other: they leave the very image, or file, that the one has left. */
+static void same_in_parts(const uint8_t *name, size_t size, uint8_t fork, uint64_t offset, const size_t *lengths, size_t count)
+{
+    static uint8_t single[MFS_WRAPPED_TAGGED_LENGTH];
+    const uint8_t *bytes = week();
+    size_t i, total = 0;
+
+    for (i = 0; i < count; i++)
+        total += lengths[i];
+    start();
+    EXPECT(form->call.write(LENT(HALL), name, size, fork, offset, bytes, total, 77) == MFS_SUCCESS);
+    EXPECT(!unchanged(HALL));
+    memcpy(single, lent, lent_length(HALL));
+    start();
+    for (i = 0; i < count; i++) {
+        EXPECT(form->call.write(LENT(HALL), name, size, fork, offset, bytes, lengths[i], 77) == MFS_SUCCESS);
+        offset += lengths[i];
+        bytes += lengths[i];
+    }
+    EXPECT(memcmp(lent, single, lent_length(HALL)) == 0);
+}
+
+/* Parts that end with blocks and beside their ends, with empty ones first, last and between; from 700 on they fill HALL. */
+static void parts_that_succeed(void)
+{
+    static const size_t rows[][5] = {
+        {1348, 0, 0, 0, 0}, {0, 0, 0, 0, 1348}, {324, 512, 512, 0, 0}, {0, 324, 0, 512, 512}, {325, 511, 1, 511, 0},
+        {1, 1346, 0, 0, 1}, {323, 1, 1, 1023, 0}};
+    size_t forty[PARTS], i;
+
+    for (i = 0; i < sizeof rows / sizeof rows[0]; i++)
+        same_in_parts(WEEK1, MFS_DATA_FORK, 700, rows[i], 5);
+    for (i = 0; i < PARTS; i++)
+        forty[i] = i % 3 == 0 ? 0 : i == 38 ? 98 : 50;
+    same_in_parts(WEEK1, MFS_DATA_FORK, 700, forty, PARTS);
+    same_in_parts(WEEK1, MFS_DATA_FORK, 0, forty, PARTS);
+    same_in_parts(RATES, MFS_RESOURCE_FORK, 0, forty, PARTS - 16);
+    memset(forty, 0, sizeof forty);
+    same_in_parts(WEEK1, MFS_DATA_FORK, 700, forty, PARTS);
+}
+
+/* 1,349 bytes meet 17, as in P5: in one part, and in the second of two, which leaves what the first has left. */
+static void parts_without_room(void)
+{
+    const uint8_t *bytes = week();
+
+    EXPECT(form->call.write(LENT(HALL), WEEK1, MFS_DATA_FORK, 700, bytes, 1349, 77) == MFS_DISK_FULL && unchanged(HALL));
+    EXPECT(form->call.write(LENT(HALL), WEEK1, MFS_DATA_FORK, 700, bytes, 400, 77) == MFS_SUCCESS);
+    want_map("\x00\x40\x01\x00\x50\x01", 1);
+    want_week1(1100, 1536, 77);
+    memcpy(want + BLOCK(4) + 188, bytes, 324);
+    memcpy(want + BLOCK(5), bytes + 324, 76);
+    EXPECT(as_wanted(HALL));
+    EXPECT(form->call.write(LENT(HALL), WEEK1, MFS_DATA_FORK, 1100, bytes + 400, 949, 77) == MFS_DISK_FULL && unchanged(HALL));
+    EXPECT(form->call.write(LENT(HALL), WEEK1, MFS_DATA_FORK, 1100, bytes + 400, 948, 77) == MFS_SUCCESS);
+}
+
+/* A write that is refused otherwise: its first part is refused by the same number, however long it is. */
+static void parts_refused(void)
+{
+    static const struct {
+        const char *name;
+        uint64_t offset;
+        size_t at; /* a byte of HALL that is another then */
+        uint8_t byte, number;
+    } rows[] = {
+        {"WEEK1", 701, 0, 0, MFS_BEHIND_END},
+        {"WEEK1", UINT64_MAX, 0, 0, MFS_BEHIND_END},
+        {"WEEK1", 701, ENTRY1, 0x81, MFS_FILE_LOCKED},
+        {"WEEK9", 701, ENTRY1, 0x81, MFS_NOT_FOUND},
+        {"", 701, ENTRY1, 0x81, MFS_BAD_NAME},
+        {"", 701, 1034, 0x80, MFS_VOLUME_LOCKED},
+        {"", 701, 1059, 3, MFS_BAD_FREE_COUNT},
+    };
+    static const size_t lengths[] = {1349, 1348, 1, 0};
+    size_t i, n;
+
+    for (i = 0; i < sizeof rows / sizeof rows[0]; i++) {
+        const uint8_t *name = (const uint8_t *)rows[i].name;
+
+        start();
+        image[rows[i].at] = rows[i].byte;
+        keep(HALL);
+        for (n = 0; n < sizeof lengths / sizeof lengths[0]; n++)
+            EXPECT(form->call.write(LENT(HALL), name, strlen(rows[i].name), MFS_DATA_FORK, rows[i].offset, week(), lengths[n], 77)
+                       == rows[i].number
+                   && unchanged(HALL));
+    }
+}
+
 /* ---- the tests: document 01's P cases */
 
 /* ABC and DEF hex are no blocks' numbers: refused by 5. 12 31 87 is 123 and 187: two chains show both. */
@@ -647,6 +752,9 @@ static const struct test tests[] = {
     {"old names above 31: every call but create", old_names},
     {"find, create, check: accents in both spellings", accents},
     {"write, block, read, cut: the fork's number", fork_numbers},
+    {"write in parts: what the single write leaves", parts_that_succeed},
+    {"write in parts: 17 at a later part", parts_without_room},
+    {"write in parts: refused otherwise", parts_refused},
     {"P1", p1},
     {"P2", p2},
     {"P3", p3},

@@ -6,7 +6,7 @@ import os
 import random
 
 from support import (Case, DATE, as_text, generate, hall, maker, volume,
-                     water, with_names)
+                     water, with_names, wrapped)
 
 FINDER = b'????????' + bytes(8)
 
@@ -277,6 +277,61 @@ class Changing(Commands):
             if wanted[0]:
                 self.assertEqual(wanted[0], 18)
                 break
+
+    def append_pieces(self, name, pieces, *options):
+        """Appends each piece from a file; the number that refused each, 0
+        for none."""
+        numbers = []
+        for piece in pieces:
+            ran = self.run_tool('append', *options, '--date=@%d' % DATE,
+                                self.image, name, self.write(piece, 'piece'))
+            numbers += ran.refusals() or [ran.status]
+        os.remove(self.path('piece'))
+        self.only('disk.img')
+        return numbers
+
+    def test_append_in_pieces(self):
+        """They leave the image file that one append of them all leaves."""
+        rng = random.Random(35)
+        tagged = wrapped(water(), b'Desk', 2, b'tags' * 2400)
+        for before in (bytes(water()), tagged):
+            for name, *options in (('Log',), ('Hall display', '-r'),
+                                   ('Log', '-r')):
+                data = maker.some_bytes(rng, 5000)
+                self.write(before)
+                self.assertEqual(
+                    self.append_pieces(name, [data], *options), [0])
+                whole = self.read()
+                self.assertNotEqual(whole, before)
+                for ends in ([0, 5000, 5000], [1, 1, 4999], [1024, 2048],
+                             sorted(rng.choices(range(5001), k=39))):
+                    ends = [0, *ends, 5000]
+                    pieces = [data[a:b] for a, b in zip(ends, ends[1:])]
+                    self.write(before)
+                    self.assertEqual(
+                        self.append_pieces(name, pieces, *options),
+                        [0] * len(pieces))
+                    self.assertEqual(self.read(), whole)
+
+    def test_append_until_full(self):
+        """A piece that has no room is refused, and those before it stay."""
+        image = hall.hall()
+        for name, fork, room in (('WEEK1', 0, 1348), ('RATES', 1, 1024)):
+            options = ['-r'] * fork
+            data = maker.some_bytes(random.Random(36), room + 1)
+            for pieces, numbers, kept in (
+                    ([data], [17], 0),
+                    ([data[:400], b'', data[400:], b''], [0, 0, 17, 0], 400),
+                    ([data[:400], data[400:-1], data[-1:], b''],
+                     [0, 0, 17, 0], room)):
+                self.write(image)
+                self.assertEqual(
+                    self.append_pieces(name, pieces, *options), numbers)
+                wanted = 0, image
+                if kept:
+                    wanted = append(image, name.encode(), fork, data[:kept],
+                                    DATE)
+                self.assertEqual((0, self.read()), wanted)
 
     def test_delete_all_or_none(self):
         image = water()

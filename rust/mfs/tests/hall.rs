@@ -1,5 +1,5 @@
-//! The library on the disk HALL: the worked cases of document 01, renames, refusals, and lengths of names and of the
-//! image.
+//! The library on the disk HALL: the worked cases of document 01, writes in parts, renames, refusals, and lengths of
+//! names and of the image.
 
 #![allow(clippy::unwrap_used, clippy::expect_used, clippy::indexing_slicing)]
 
@@ -134,6 +134,43 @@ fn writes() {
         refused(|image| Volume::Bare.write(image, b"WEEK1", Fork::Data, 701, &[], DATE)),
         16
     );
+}
+
+/// Each part of the bytes behind an empty one, written to WEEK1 until one is refused; what they gave and left.
+fn in_parts(offset: u64, bytes: &[u8], length: usize) -> (Result<(), Refusal>, Vec<u8>) {
+    let (mut image, mut from) = (hall(), offset);
+    for part in bytes.chunks(length).flat_map(|part| [&[], part]) {
+        if let Err(refusal) = Volume::Bare.write(&mut image, b"WEEK1", Fork::Data, from, part, DATE) {
+            return (Err(refusal), image);
+        }
+        from += part.len() as u64;
+    }
+    (Ok(()), image)
+}
+
+#[test]
+fn writes_in_parts() {
+    let bytes: Vec<u8> = (0..1349).map(|i| (i % 251) as u8).collect();
+    let written = |offset, length| {
+        let mut image = hall();
+        Volume::Bare
+            .write(&mut image, b"WEEK1", Fork::Data, offset, &bytes[..length], DATE)
+            .unwrap();
+        image
+    };
+    for (offset, length) in [(0, 1348), (511, 514), (700, 1), (700, 400), (700, 1348)] {
+        for part in [1, 2, 34, 324, 512, 1347, 1348] {
+            let parts = in_parts(offset, &bytes[..length], part);
+            assert_eq!(parts, (Ok(()), written(offset, length)), "{offset} {length} {part}");
+        }
+    }
+    for part in [1, 400, 949, 1348] {
+        let (given, left) = in_parts(700, &bytes, part);
+        assert_eq!(given.map_err(Refusal::number), Err(17));
+        assert_eq!(left, written(700, 1348 / part * part), "{part}");
+    }
+    let (given, left) = in_parts(701, &bytes, 400);
+    assert_eq!((given.map_err(Refusal::number), left), (Err(16), hall()));
 }
 
 #[test]

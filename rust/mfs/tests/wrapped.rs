@@ -136,6 +136,29 @@ fn changed_as_the_image_inside() {
     }
 }
 
+/// A write in parts leaves the very file that the single write leaves.
+#[test]
+fn written_in_parts() {
+    let bytes: Vec<u8> = (0..5000).map(|i| (i % 251) as u8).collect();
+    let write = |file: &mut [u8], fork, offset, bytes: &[u8]| {
+        Volume::Wrapped.write(file, b"Log", fork, offset, bytes, DATE).unwrap();
+    };
+    for before in [wrapped(), tagged()] {
+        for fork in [Fork::Data, Fork::Resource] {
+            let mut whole = before.clone();
+            write(&mut whole, fork, 0, &bytes);
+            for length in [125, 1024, 4999] {
+                let (mut file, mut from) = (before.clone(), 0);
+                for part in bytes.chunks(length).flat_map(|part| [&[], part]) {
+                    write(&mut file, fork, from, part);
+                    from += part.len() as u64;
+                }
+                assert!(file == whole, "{length}");
+            }
+        }
+    }
+}
+
 /// Rename takes only images: a wrapped file is one of a wrong length.
 #[test]
 fn not_renamed() {

@@ -1,5 +1,6 @@
 //! A call of a kind for an image, its arguments about the edges.
 
+use super::parts::Write;
 use crate::baseline::{self, Entry, Facts, ForkFacts};
 use crate::call::{Bytes, Call, RENAME};
 use crate::images::{get2, DATA, HEADER, TAGS};
@@ -216,9 +217,43 @@ fn new_length(random: &mut Random) -> usize {
 /// A write within the fork, to its end or a block's end, or about what fills the volume.
 fn write(random: &mut Random, target: Target) -> Call {
     let offset = about(random, target.logical as u64);
+    let length = written_length(random, &target, offset);
+    let written = Bytes(bytes(random, length));
+    Call::Write(target.name, target.fork, offset, written, random.next() as u32)
+}
+
+/// A write that is to be split: half of the time it just fills the volume, or has a byte or a block too many.
+pub fn write_to_split(random: &mut Random, image: &[u8]) -> Write {
+    let mut target = target(random, image);
+    if target.physical == 0 {
+        target = self::target(random, image);
+    }
+    let offset = about(random, target.logical as u64);
+    let length = if random.once_in(2) {
+        written_length(random, &target, offset)
+    } else {
+        let more = [0, 1, target.block_size][random.index(3)];
+        (room(&target, offset) + more).min(MOST)
+    };
+    Write {
+        bytes: bytes(random, length),
+        name: target.name,
+        fork: target.fork,
+        offset,
+        changed: random.next() as u32,
+    }
+}
+
+/// How many bytes can be written at an offset.
+fn room(target: &Target, offset: u64) -> usize {
+    let most = target.physical + target.free_blocks * target.block_size;
+    (most as u64).saturating_sub(offset) as usize
+}
+
+fn written_length(random: &mut Random, target: &Target, offset: u64) -> usize {
     let (from, size) = (offset.min(1 << 30) as usize, target.block_size);
     let end = target.physical.saturating_sub(from);
-    let whole = (target.physical + target.free_blocks * size).saturating_sub(from);
+    let whole = room(target, offset);
     let length = match random.below(10) {
         0 => 0,
         1 => end,
@@ -229,8 +264,7 @@ fn write(random: &mut Random, target: Target) -> Call {
         6 => size - from % size,
         _ => random.index(2 * size),
     };
-    let written = Bytes(bytes(random, length.min(MOST)));
-    Call::Write(target.name, target.fork, offset, written, random.next() as u32)
+    length.min(MOST)
 }
 
 /// A wrap with a buffer that fits an image of 400K, or about that; another image has mostly a short one.

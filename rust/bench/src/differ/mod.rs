@@ -1,9 +1,11 @@
 //! The archive against the baseline in one process: the same calls on the same images and wrapped files, and after
-//! each call the number, all that it handed out, the image or file and the buffer are compared.
+//! each call the number, all that it handed out, the image or file and the buffer are compared. Writes are made in
+//! parts too, and held to request T-06.
 
 mod answer;
 mod choose;
 mod lent;
+mod parts;
 
 use crate::baseline::Form;
 use crate::call::{Call, KINDS, RENAME, WRAP};
@@ -12,6 +14,7 @@ use crate::random::Random;
 use crate::volumes;
 use answer::Answer;
 use lent::Lent;
+use parts::Splits;
 use std::fmt;
 
 const BUFFER_BYTE: u8 = 0x5A;
@@ -28,6 +31,9 @@ const TEN: [usize; WRAP] = [0, 1, 2, 3, 4, 5, 6, 7, 8, RENAME];
 /// How many turns there are to one with a wrapped file, whose calls take longer.
 const TURNS: u64 = 25;
 
+/// The length above which an image is large: fewer calls are made on it, since each takes longer.
+const LARGE: usize = 1 << 20;
+
 /// What was run without a difference.
 pub struct Report {
     seed: u64,
@@ -35,6 +41,8 @@ pub struct Report {
     /// How often each call gave each number.
     bare: Numbers,
     wrapped: Numbers,
+    bare_splits: Splits,
+    wrapped_splits: Splits,
 }
 
 type Numbers = [[u64; NUMBERS]; KINDS.len()];
@@ -111,6 +119,7 @@ pub fn run(seed: u64, calls: u64) -> Result<Report, Box<Difference>> {
         if differ.random.once_in(TURNS) {
             differ.wrapped(&shapes)?;
         }
+        differ.split_some()?;
         let image = match differ.random.below(2000) {
             0 => crowded[differ.random.index(4)].1.clone(),
             1..=20 => shapes[differ.random.index(shapes.len())].1.clone(),
@@ -130,15 +139,20 @@ impl Differ {
                 calls: 0,
                 bare: [[0; NUMBERS]; KINDS.len()],
                 wrapped: [[0; NUMBERS]; KINDS.len()],
+                bare_splits: Splits::default(),
+                wrapped_splits: Splits::default(),
             },
             memory: Memory::default(),
         }
     }
 
-    /// A run of calls on one volume; in between, calls on damaged copies of it.
+    /// A run of calls on one volume; in between, calls on damaged copies of it, and writes in parts.
     fn volume(&mut self, mut image: Vec<u8>) -> Compared {
-        let large = image.len() > 1 << 20;
-        let rounds = if large { 4 } else { self.random.between(5, 60) };
+        let rounds = if image.len() > LARGE {
+            4
+        } else {
+            self.random.between(5, 60)
+        };
         for _ in 0..rounds {
             let kind = if self.random.once_in(40) {
                 WRAP
@@ -152,6 +166,9 @@ impl Differ {
                     volumes::damage(&mut self.random, &mut damaged);
                 }
                 self.kinds(Form::Bare, &mut damaged, &TEN)?;
+            }
+            if self.random.once_in(40) {
+                self.split(Form::Bare, &image)?;
             }
         }
         Ok(())
@@ -194,18 +211,14 @@ impl Differ {
     /// Calls of these kinds, one after another.
     fn kinds(&mut self, form: Form, file: &mut [u8], kinds: &[usize]) -> Compared {
         for &kind in kinds {
-            let image = match form {
-                Form::Bare => &*file,
-                Form::Wrapped => file.get(HEADER..HEADER + DATA).unwrap_or_default(),
-            };
-            let call = choose::call(&mut self.random, image, kind);
+            let call = choose::call(&mut self.random, image_in(form, file), kind);
             self.compare(form, file, call)?;
         }
         Ok(())
     }
 
-    /// Makes the call on both sides; the file becomes what the baseline left.
-    fn compare(&mut self, form: Form, file: &mut [u8], call: Call) -> Compared {
+    /// Makes the call on both sides; the file becomes what both left. Gives the number that both gave.
+    fn compare(&mut self, form: Form, file: &mut [u8], call: Call) -> Result<u8, Box<Difference>> {
         let memory = &mut self.memory;
         memory.prepare(file, call.buffer_length(), self.random.index(8));
         let (lent, lent_buffer) = (&mut memory.lent, &mut memory.lent_buffer);
@@ -229,7 +242,7 @@ impl Differ {
         }
         self.report.count(form, &call, number);
         if archive == baseline && found.is_empty() {
-            return Ok(());
+            return Ok(number);
         }
         Err(Box::new(Difference {
             seed: self.report.seed,
@@ -255,23 +268,30 @@ impl Report {
     }
 }
 
+/// The image by which a call's arguments are chosen.
+fn image_in(form: Form, file: &[u8]) -> &[u8] {
+    match form {
+        Form::Bare => file,
+        Form::Wrapped => file.get(HEADER..HEADER + DATA).unwrap_or_default(),
+    }
+}
+
 /// Where the images or files and the buffers differ that the archive and the baseline have left.
 fn differences(archive: &Left, baseline: &Left) -> Vec<String> {
-    let pairs = [
-        ("file", archive.file, baseline.file),
-        ("buffer", archive.buffer, baseline.buffer),
-    ];
-    let mut found = Vec::new();
-    for (what, one, other) in pairs {
-        if one == other {
-            continue;
-        }
-        let differing = one.iter().zip(other).enumerate().filter(|(_, (a, b))| a != b);
-        for (at, (a, b)) in differing.take(3) {
-            found.push(format!("{what} at byte {at}: archive {a:02X}, baseline {b:02X}"));
-        }
-    }
+    let sides = ["archive", "baseline"];
+    let mut found = bytes_that_differ("file", sides, archive.file, baseline.file);
+    found.extend(bytes_that_differ("buffer", sides, archive.buffer, baseline.buffer));
     found
+}
+
+/// The first bytes that differ in what two sides have left.
+fn bytes_that_differ(what: &str, sides: [&str; 2], one: &[u8], other: &[u8]) -> Vec<String> {
+    if one == other {
+        return Vec::new();
+    }
+    let differing = one.iter().zip(other).enumerate().filter(|(_, (a, b))| a != b);
+    let line = |(at, (a, b))| format!("{what} at byte {at}: {} {a:02X}, {} {b:02X}", sides[0], sides[1]);
+    differing.take(3).map(line).collect()
 }
 
 impl fmt::Display for Difference {
@@ -292,7 +312,8 @@ impl fmt::Display for Report {
     fn fmt(&self, f: &mut fmt::Formatter) -> fmt::Result {
         writeln!(f, "seed {}: {} calls, no difference", self.seed, self.calls)?;
         write_numbers(f, "", &self.bare)?;
-        write_numbers(f, "wrapped ", &self.wrapped)
+        write_numbers(f, "wrapped ", &self.wrapped)?;
+        write!(f, "{}wrapped {}", self.bare_splits, self.wrapped_splits)
     }
 }
 

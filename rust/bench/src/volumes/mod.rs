@@ -17,16 +17,33 @@ pub use wrapped::{damage_wrapped, disk_400k, wrap_up};
 
 /// An accepted volume, from tiny to (seldom) the largest.
 pub fn volume(random: &mut Random) -> Vec<u8> {
-    let mut geometry = geometry(random);
+    let geometry = geometry(random);
+    let free = match random.below(3) {
+        0 => 0,
+        1 => random.index(geometry.allocation_blocks + 1),
+        _ => random.index(geometry.allocation_blocks / 2 + 1),
+    };
+    with_free(random, geometry, free)
+}
+
+/// An accepted volume that has a file, and at most four free blocks.
+pub fn nearly_full(random: &mut Random) -> Vec<u8> {
+    loop {
+        let geometry = geometry(random);
+        let free = random.index(geometry.allocation_blocks.min(4) + 1);
+        let image = with_free(random, geometry, free);
+        if !entries(&image).is_empty() {
+            return image;
+        }
+    }
+}
+
+/// An accepted volume with so many free blocks, if it has a file.
+fn with_free(random: &mut Random, mut geometry: Geometry, free: usize) -> Vec<u8> {
     let mut blocks: Vec<u16> = (2..geometry.allocation_blocks as u16 + 2).collect();
     if !random.once_in(4) {
         random.shuffle(&mut blocks);
     }
-    let free = match random.below(3) {
-        0 => 0,
-        1 => random.index(blocks.len() + 1),
-        _ => random.index(blocks.len() / 2 + 1),
-    };
     blocks.truncate(blocks.len() - free);
     let files = files(random, &geometry, blocks);
     let largest = files.iter().map(|(_, file)| file.number).max().unwrap_or(0);
