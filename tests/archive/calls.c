@@ -413,7 +413,7 @@ static void parts_refused(void)
     static const struct {
         const char *name;
         uint64_t offset;
-        size_t at; /* a byte of HALL that is another then */
+        size_t at; /* a byte of HALL that is set first */
         uint8_t byte, number;
     } rows[] = {
         {"WEEK1", 701, 0, 0, MFS_BEHIND_END},

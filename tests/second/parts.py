@@ -285,8 +285,8 @@ def refused(tape, rng, m, number=None):
 
 
 def in_order(tape, count):
-    """Refusals where later ones may come too; then the same writes on a locked
-    volume."""
+    """Refusals where later ones may come too; then some of these writes on a
+    locked volume."""
     rng = random.Random(85)
     for i in range(count):
         m = small(rng, range(3))

@@ -1,10 +1,10 @@
 -- The worked cases of InParts hold.
 use Prim.Native.Nat.{ℕ}
 use mathlib.Core.Path.{_≡_, refl}
-use mathlib.Core.List.{List, [], _∷_}
+use mathlib.Core.List.{[], _∷_}
 use mathlib.Core.Logic.{_⊎_, inl, inr, ⊎-elim}
 use native.Mathlib.Omega.{arith}
-use Rattle.model.specs.Calls.{Call, only}
+use Rattle.model.specs.Calls.{only}
 use Rattle.model.specs.Calls.Call.{write}
 use Rattle.model.specs.Cases.{WEEK1}
 use Rattle.model.specs.declared.Fork.the-variants.{Data}

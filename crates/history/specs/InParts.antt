@@ -53,7 +53,7 @@ InParts =
     (events : List Event) → Does (write name fork offset (flat (bytes ∷ parts)) changed) image given left → Run image events
     → WritesParts name fork offset (bytes ∷ parts) changed events → AsOne image given left events
 
--- No way to cut falls out of that: whatever is written can be written in its parts.
+-- No way to cut falls out of that: whatever write is made, its parts can be written, up to one that is refused.
 unfoldable pub EveryCut : Type 0
 EveryCut =
     (image name : List ℕ) (fork : Fork) (offset : ℕ) (bytes : List ℕ) (parts : List (List ℕ)) (changed : ℕ) (given : Answer) (left : List ℕ)

@@ -18,7 +18,7 @@ WrappedInParts =
     (events : List Event) → DoesWrapped (write name fork offset (flat (bytes ∷ parts)) changed) file given left → WrappedRun file events
     → WritesParts name fork offset (bytes ∷ parts) changed events → AsOne file given left events
 
--- No way to cut falls out of that: whatever is written can be written in its parts.
+-- No way to cut falls out of that: whatever write is made, its parts can be written, up to one that is refused.
 unfoldable pub EveryWrappedCut : Type 0
 EveryWrappedCut =
     (file name : List ℕ) (fork : Fork) (offset : ℕ) (bytes : List ℕ) (parts : List (List ℕ)) (changed : ℕ) (given : Answer) (left : List ℕ)

@@ -1,4 +1,4 @@
-// The claim on every list of calls, and what follows from it for the auditor.
+// The claim on every list of calls, what follows from it for the auditor, and writes in parts.
 ghost use Rattle.history.specs.Dates.{Dates};
 ghost use Rattle.history.specs.Deleting.{Deleting};
 ghost use Rattle.history.specs.EveryList.{EveryList};
@@ -59,13 +59,21 @@ pub fn read_back()
     ensures { λ _. ⌜ ReadBack ⌝ }
 {}
 
-// A write cut into parts that are written one behind the other, with the same date, leaves the very image that the single write leaves;
-// where that is refused for room, some part is, and where it is refused otherwise, so is the first part.
+// No list of calls falls out of the claim: whatever is called has a run, and that run keeps step with its history.
+pub fn every_list()
+    ensures { λ _. ⌜ EveryList ⌝ }
+{}
+
+// Writes in parts (document 02, T-06).
+
+// Where a write succeeds, its parts, written one behind the other from the same offset with the same date, leave the very image that it
+// leaves; where it is refused for room, some part is, and those before it succeed; where it is refused otherwise, the first part gets the
+// same number.
 pub fn in_parts()
     ensures { λ _. ⌜ InParts ⌝ }
 {}
 
-// No way to cut falls out of that: whatever is written can be written in its parts.
+// No way to cut falls out of that: whatever write is made, its parts can be written, up to one that is refused.
 pub fn every_cut()
     ensures { λ _. ⌜ EveryCut ⌝ }
 {}
@@ -73,11 +81,6 @@ pub fn every_cut()
 // Worked cases of what these say of events.
 pub fn part_cases()
     ensures { λ _. ⌜ PartCases ⌝ }
-{}
-
-// No list of calls falls out of the claim: whatever is called has a run, and that run keeps step with its history.
-pub fn every_list()
-    ensures { λ _. ⌜ EveryList ⌝ }
 {}
 
 // Wrapped files.
@@ -97,7 +100,7 @@ pub fn wrapping()
     ensures { λ _. ⌜ Wrapping ⌝ }
 {}
 
-// A write to a wrapped file, cut into parts, leaves the very file that the single write leaves, and is refused as that is.
+// The same of a write to a wrapped file: its parts leave the very file that it leaves, the data checksum too, and are refused alike.
 pub fn wrapped_in_parts()
     ensures { λ _. ⌜ WrappedInParts ⌝ }
 {}

@@ -1,4 +1,4 @@
--- After each change that is not refused, every element of the image is still a byte.
+-- After each change that is not refused, every element of the image is still a byte; and a write ends below 2^32.
 use Prim.Native.Nat.{ℕ, zero, suc, _+_, _-_, _*_, _%_, _≤_, _<_}
 use mathlib.Core.Path.{_≡_, subst}
 use mathlib.Core.Bool.{Bool, true, false, not, cond}
@@ -33,6 +33,7 @@ use Rattle.laws.proofs.MapChecks.{blockCounts, all-blocks}
 use Rattle.laws.proofs.Octets.{Octets, octets, bytes, octets-take, octets-drop, octets-cons, octets-append, octets-zeros}
 use Rattle.laws.proofs.Octets.{octets-u16, octets-u32, bytes-be32}
 use Rattle.laws.proofs.Octets.{bytes-putChain, bytes-putFree, bytes-putContent, bytes-paste, bytes-sets, octets-sets}
+use Rattle.laws.proofs.MapSteps.{sizeAfter, newCount, blocksAfter}
 use Rattle.laws.proofs.Blocks.{cut-count}
 use Rattle.laws.proofs.Reorder.{first-found}
 use Rattle.laws.proofs.Refusals.{MayCreate, MayChangeFile, MayWrite, MayChangeFork, MayRename}
@@ -358,9 +359,9 @@ written-bytes image acc h name fork o xs changed fits may =
     let g = forkOf fork (entryNamed name image) in
     let found = may .file .exists in
     let old = forkBlocks (mapEntry image) (A f) g in
-    let size = grown (g .logical) o (length xs) in
-    let new = needed (A f) size (length old) in
-    let all = old ++ take new (freeBlocks (mapEntry image) (N f)) in
+    let size = sizeAfter g o xs in
+    let new = newCount (mapEntry image) (A f) g o xs in
+    let all = blocksAfter (mapEntry image) (N f) (A f) g o xs in
     let enough : new ≤ freeCount f = rw (length-forkBlocks (mapEntry image) (A f) g) (may .room) in
     let count = named-count image acc name found fork in
     let most : length all ≤ length old + new = rw (length-append, length-take) (omega arith) in

@@ -1,5 +1,5 @@
--- Laws of wrapped files: a checksum fits 32 bits, a file whose data are put anew has them inside and keeps the rest, and what is
--- wrapped is a sound container with the image inside.
+-- Laws of wrapped files: a checksum fits 32 bits, a file whose data are put anew has them inside and keeps the rest, and has the second
+-- where they are put anew twice, and what is wrapped is a sound container with the image inside.
 use Prim.Native.Nat.{ℕ, suc, _+_, _-_, _*_, _/_, _%_, _^_, _≤_, _<_}
 use mathlib.Core.Path.{_≡_, refl, sym, ap, subst, _∙_}
 use mathlib.Core.List.{List, [], _∷_, _++_, append-assoc}

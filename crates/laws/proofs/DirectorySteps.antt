@@ -10,11 +10,11 @@ use borrow.Author.Tests.{not-false}
 use Rattle.model.specs.Lists.{any, distinct, keep}
 use Rattle.model.specs.Bytes.{byte, half}
 use Rattle.model.specs.Facts.{factsOf, dirStart, dirLength, N, A, S, nextNumber, freeCount, withCounts}
-use Rattle.model.specs.Map.{mapEntry, freeBlocks, putChain, putFree}
+use Rattle.model.specs.Map.{mapEntry, putChain, putFree}
 use Rattle.model.specs.Directory.{padded, directoryBlocks, listing, directory, numberIn, nameIn, inUse, forkOf, forkBlocks, named}
 use Rattle.model.specs.Check.{goodEntry, sameNames, fires6, fires7}
-use Rattle.model.specs.Calls.{hasRoom, placed, removed, onNamed, rewritten, withDirectory, withFiles, withNext, withFree, withFork, fewest, grown, needed}
-use Rattle.model.specs.Calls.{putContent, newEntry, created, written, shortened, deleted}
+use Rattle.model.specs.Calls.{hasRoom, placed, removed, onNamed, rewritten, withDirectory, withFiles, withNext, withFree, withFork, fewest}
+use Rattle.model.specs.Calls.{newEntry, created, written, shortened, deleted}
 use Rattle.model.specs.Bytes.{Within}
 use Rattle.model.specs.declared.VolumeFacts.{VolumeFacts}
 use Rattle.model.specs.declared.ForkFacts.{ForkFacts}
@@ -23,6 +23,7 @@ use Rattle.model.specs.declared.Fork.the-variants.{Data, Resource}
 use Rattle.model.proofs.Lists.{and-true}
 use Rattle.model.proofs.Check.{PassesAll, sound-facts}
 use Rattle.laws.proofs.Reorder.{Alone}
+use Rattle.laws.proofs.MapSteps.{sizeAfter, newCount, blocksAfter, afterWrite}
 use Rattle.laws.proofs.Block.{sound, Keeps, keeps-sized}
 use Rattle.laws.proofs.Entry.{new-length, new-sound, new-number, new-name, fork-keeps}
 use Rattle.laws.proofs.Blocks.{Cleans, clean-whole, Stays, Inserted, inserted-reordered, placed-stays, placed-inserted, removed-stays, removed-listing}
@@ -189,16 +190,12 @@ module _ (image : List ℕ) (r : ReadableDirectory image) where
 abbrev pub deleteFreed : List ℕ → List ℕ → List ℕ
 deleteFreed image e = forkBlocks (mapEntry image) (A (factsOf image)) (forkOf Data e) ++ forkBlocks (mapEntry image) (A (factsOf image)) (forkOf Resource e)
 
--- the logical length after a write, the number of new blocks, and all blocks of fork g then
-abbrev pub writeLogical : ℕ → List ℕ → ForkFacts → ℕ
-writeLogical o xs g = grown (g .logical) o (length xs)
-
+-- the number of new blocks of a write, and all blocks of fork g then
 abbrev pub writeNew : List ℕ → ℕ → List ℕ → ForkFacts → ℕ
-writeNew image o xs g = needed (A (factsOf image)) (writeLogical o xs g) (length (forkBlocks (mapEntry image) (A (factsOf image)) g))
+writeNew image o xs g = newCount (mapEntry image) (A (factsOf image)) g o xs
 
 abbrev pub writeAll : List ℕ → ℕ → List ℕ → ForkFacts → List ℕ
-writeAll image o xs g =
-    forkBlocks (mapEntry image) (A (factsOf image)) g ++ take (writeNew image o xs g) (freeBlocks (mapEntry image) (N (factsOf image)))
+writeAll image o xs g = blocksAfter (mapEntry image) (N (factsOf image)) (A (factsOf image)) g o xs
 
 -- the blocks of fork g that a cut to n keeps and frees
 abbrev pub cutKept : List ℕ → ℕ → ForkFacts → List ℕ
@@ -209,8 +206,7 @@ cutFreed image n g = drop (fewest n (A (factsOf image))) (forkBlocks (mapEntry i
 
 -- the images before the directory's stores
 abbrev pub writeBase : List ℕ → ℕ → List ℕ → ForkFacts → List ℕ
-writeBase image o xs g =
-    putContent (S (factsOf image)) (A (factsOf image)) (putChain image (writeAll image o xs g)) (writeAll image o xs g) o xs
+writeBase image o xs g = afterWrite (S (factsOf image)) (A (factsOf image)) (N (factsOf image)) image g o xs
 
 abbrev pub cutBase : List ℕ → ℕ → ForkFacts → List ℕ
 cutBase image n g = putFree (putChain image (cutKept image n g)) (cutFreed image n g)
@@ -221,14 +217,14 @@ deleteBase image e = putFree image (deleteFreed image e)
 module _ (image : List ℕ) (r : ReadableDirectory image) (name : List ℕ) (h : any (named name) (directory image) ≡ true) where
   pub written-step : (fork : Fork) (o : ℕ) (xs : List ℕ) (changed : ℕ) (g : ForkFacts) → Based image (writeBase image o xs g)
       → DirectoryStored image (writeBase image o xs g)
-      (map (onNamed name (withFork fork (A (factsOf image)) (writeLogical o xs g) (writeAll image o xs g) changed)) (directory image))
+      (map (onNamed name (withFork fork (A (factsOf image)) (sizeAfter g o xs) (writeAll image o xs g) changed)) (directory image))
       (factsOf image .files) (nextNumber (factsOf image)) (freeCount (factsOf image) - writeNew image o xs g)
       (written (factsOf image) image name fork o xs changed g)
   unfolding written
   written-step fork o xs changed g b =
       rewrite-step image r (writeBase image o xs g) b name h (freeCount (factsOf image) - writeNew image o xs g)
-      (withFork fork (A (factsOf image)) (writeLogical o xs g) (writeAll image o xs g) changed)
-      (fork-keeps fork (A (factsOf image)) (writeLogical o xs g) (writeAll image o xs g) changed)
+      (withFork fork (A (factsOf image)) (sizeAfter g o xs) (writeAll image o xs g) changed)
+      (fork-keeps fork (A (factsOf image)) (sizeAfter g o xs) (writeAll image o xs g) changed)
 
   pub shortened-step : (fork : Fork) (n changed : ℕ) (g : ForkFacts) → Based image (cutBase image n g)
       → DirectoryStored image (cutBase image n g)

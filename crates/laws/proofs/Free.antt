@@ -195,7 +195,7 @@ among-dropped e e′ (suc m) s k h = go (eqb (e s) 0) refl k h (among-dropped e 
         let t = times-take s k now in
         rw (h .alike s (omega arith) (omega arith) (omega arith) ∙ q) (ih k (takes-rest e e′ s m (take k now) h))
 
--- where e′ leads on from each of the lowest k free blocks of e, and has all others as e, the others are free
+-- where e′ has the lowest k free blocks of e no more free, and all others as e, its free blocks are the others
 pub free-dropped : (e e′ : ℕ → ℕ) (n k : ℕ) → ((b : ℕ) → 1 ≤ times b (take k (freeBlocks e n)) → e′ b ≡ 0 → ⊥)
     → ((b : ℕ) → 2 ≤ b → b < 2 + n → times b (take k (freeBlocks e n)) ≡ 0 → eqb (e′ b) 0 ≡ eqb (e b) 0) → freeBlocks e′ n ≡ drop k (freeBlocks e n)
 unfolding freeBlocks

@@ -264,7 +264,8 @@ around s a n free free′ l l″ p m m′ t x pos h k c =
 
 -- ---- the calls
 
--- write of xs at o to the fork g: its logical length then, the new blocks needed, its blocks then, and the map and the blocks then
+-- write of xs at o to the fork g: its logical length then, the new blocks that it takes, which are those needed, its blocks then, and the
+-- map and the blocks then
 abbrev pub sizeAfter : ForkFacts → ℕ → List ℕ → ℕ
 sizeAfter g o xs = grown (g .logical) o (length xs)
 
@@ -295,7 +296,7 @@ bothBlocks e a g r = forkBlocks e a g ++ forkBlocks e a r
 abbrev pub blankFork : ForkFacts
 blankFork = record { start = record { 0 = 0 }; logical = 0; physical = 0 }
 
--- the new blocks needed, from the count that the fields tell
+-- the new blocks, from the count that the fields tell
 pub new-count : (e : ℕ → ℕ) (a : ℕ) (g : ForkFacts) (o : ℕ) (xs : List ℕ) → newCount e a g o xs ≡ needed a (sizeAfter g o xs) (blockCount a g)
 new-count e a g o xs = ap (needed a (sizeAfter g o xs)) (length-forkBlocks e a g)
 

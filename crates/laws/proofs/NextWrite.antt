@@ -6,7 +6,7 @@ use mathlib.Core.Bool.{true}
 use mathlib.Core.List.{List}
 use native.Mathlib.Omega.{arith}
 use native.Mathlib.Decide.{ℕ-discrete, decLt}
-use lib.ListN.{length, take, drop, length-append}
+use lib.ListN.{length, take, drop}
 use lib.Dec.{eqb}
 use borrow.Author.Tests.{ne-eqb}
 use Rattle.model.specs.Lists.{any, flat, times}
@@ -38,7 +38,7 @@ use Rattle.laws.proofs.Rewrites.{Rewritten, entry-now}
 use Rattle.laws.proofs.Writes.{its, all, free, base, frame, write-rewrites, now-stores, now-many, was-linked}
 use Rattle.laws.proofs.Writes.{left as leftBy}
 use Rattle.laws.proofs.Stored.{Stored}
-use Rattle.laws.proofs.Counts.{needed-then}
+use Rattle.laws.proofs.Counts.{grown-end, needed-then}
 
 module _ (image : List ℕ) (acc : Accepted image) (name : List ℕ) (fork : Fork) (o : ℕ) (xs : List ℕ) (changed : ℕ)
     (m : MayWrite image name fork o (length xs)) where
@@ -207,8 +207,7 @@ module _ (image : List ℕ) (acc : Accepted image) (name : List ℕ) (fork : For
 
   -- the tests of a write behind this one: its offset, and the room
   pub left-within : o + length xs ≤ forkOf fork (entryNamed name left) .logical
-  unfolding grown
-  left-within = subst (λ (h : ForkFacts). o + length xs ≤ h .logical) (sym left-fork) (omega arith)
+  left-within = subst (λ (h : ForkFacts). o + length xs ≤ h .logical) (sym left-fork) (grown-end (g .logical) o (length xs))
 
   pub left-count : freeCount (factsOf left) ≡ freeCount f - count
   unfolding withCounts

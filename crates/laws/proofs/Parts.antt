@@ -1,4 +1,5 @@
--- The law for two parts over the calls: what the write of both gives and leaves, the writes of the one and of the other behind it do.
+-- The law for two parts over the calls: where the write of both succeeds, so do the writes of the one and of the other behind it, and they
+-- leave what it leaves; where it gets 17, one of them does; where it is refused otherwise, the first is refused so.
 use Prim.Native.Nat.{ℕ, _+_, _^_, _≤_, _<_}
 use mathlib.Core.Path.{_≡_, refl, sym, ap, subst, _∙_}
 use mathlib.Core.List.{List, _++_}
@@ -10,10 +11,12 @@ use lib.Seq.{take-append-seam, drop-append-seam}
 use Rattle.model.specs.Bytes.{Bytes}
 use Rattle.model.specs.Facts.{factsOf, freeCount}
 use Rattle.model.specs.Check.{Accepted}
-use Rattle.model.specs.Calls.{Call, checks, grown, refusal, after, Fits}
+use Rattle.model.specs.Directory.{forkOf}
+use Rattle.model.specs.Calls.{Call, entryNamed, checks, refusal, after, Fits}
 use Rattle.model.specs.Calls.Call.{write, cut}
 use Rattle.model.specs.declared.Fork.{Fork}
 use Rattle.laws.proofs.Octets.{Octets, octets, bytes, octets-take, octets-drop}
+use Rattle.laws.proofs.Counts.{grown-end}
 use Rattle.laws.proofs.Refusals.{MayChangeFork, MayWrite, needs, refused, done, served-accepted, may-write, may-cut}
 use Rattle.laws.proofs.Writes.{left, is-left, enough, write-rewrites, write-accepted}
 use Rattle.laws.proofs.BytesKept.{written-low, written-bytes}
@@ -67,11 +70,20 @@ module _ (name : List ℕ) (fork : Fork) (changed : ℕ) where
   first-fits o xs ys w =
       (w .0, w .1, bytes xs (subst Octets (take-append-seam xs ys) (octets-take (length xs) (xs ++ ys) (octets (xs ++ ys) (w .2)))), w .3)
 
-  pub second-fits : (o : ℕ) (xs ys : List ℕ) → o + length xs < 2 ^ 64 → Fits (write name fork o (xs ++ ys) changed)
+  second-fits : (o : ℕ) (xs ys : List ℕ) → o + length xs < 2 ^ 64 → Fits (write name fork o (xs ++ ys) changed)
       → Fits (write name fork (o + length xs) ys changed)
   unfolding Fits
   second-fits o xs ys h w =
       (w .0, h, bytes ys (subst Octets (drop-append-seam xs ys) (octets-drop (length xs) (xs ++ ys) (octets (xs ++ ys) (w .2)))), w .3)
+
+  -- ---- room
+
+  -- a write that passes the tests before 17 and has room is not refused
+  serves : (image : List ℕ) (o : ℕ) (xs : List ℕ) → Accepted image → MayWrite image name fork o (length xs)
+      → refusal (write name fork o xs changed) image ≡ 0
+  serves image o xs acc m =
+      let r : MayChangeFork image name fork o = record { file = m .file; within = m .within } in
+      write-served image name fork o changed xs (cut-passes image name fork o changed acc r) (m .room)
 
   module _ (image : List ℕ) (o : ℕ) (xs ys : List ℕ) (b : Bytes image) (w : Fits (write name fork o (xs ++ ys) changed)) where
     abbrev q : ℕ
@@ -85,20 +97,15 @@ module _ (name : List ℕ) (fork : Fork) (changed : ℕ) where
 
     -- it ends below 2^64
     behind-first : refusal (write name fork o xs changed) image ≡ 0 → Bytes mid × Fits (write name fork q ys changed)
-    unfolding checks grown
+    unfolding checks
     behind-first z =
         let acc = served-accepted image (write name fork o xs changed) refl z in
         let m = may-write image name fork o xs changed z in
-        let low : q < 2 ^ 64 = omega (arith, written-low image acc name fork o (length xs) m) in (
+        let low : q < 2 ^ 64 =
+        omega (arith, written-low image acc name fork o (length xs) m, grown-end (forkOf fork (entryNamed name image) .logical) o (length xs)) in (
           subst Bytes (sym (done (write name fork o xs changed) image z)) (written-bytes image acc b name fork o xs changed (first-fits o xs ys w) m),
           second-fits o xs ys low w,
         )
-
-    -- the tests before 17, and the room
-    serves : (l : List ℕ) (p : ℕ) (zs : List ℕ) → Accepted l → MayWrite l name fork p (length zs) → refusal (write name fork p zs changed) l ≡ 0
-    serves l p zs acc m =
-        let r : MayChangeFork l name fork p = record { file = m .file; within = m .within } in
-        write-served l name fork p changed zs (cut-passes l name fork p changed acc r) (m .room)
 
     -- ---- two parts
 
@@ -120,12 +127,12 @@ module _ (name : List ℕ) (fork : Fork) (changed : ℕ) where
         let l = is-left image acc name fork o (xs ++ ys) changed m in
         let h = behind-first z₁ in
         let b₂ = subst Bytes l₂ (written-bytes left₁ acc₁ (subst Bytes e (h .0)) name fork q ys changed (h .1) m₂) in
-        let b₁ = subst Bytes l (written-bytes image acc b name fork o (xs ++ ys) changed w m) in (
+        let b₀ = subst Bytes l (written-bytes image acc b name fork o (xs ++ ys) changed w m) in (
           z₁,
           subst (λ (i : List ℕ). refusal (write name fork q ys changed) i ≡ 0) (sym e) z₂,
           ap (after (write name fork q ys changed)) e
               ∙ done (write name fork q ys changed) left₁ z₂ ∙ l₂
-              ∙ two-parts image acc name fork o xs ys changed m b₂ b₁
+              ∙ two-parts image acc name fork o xs ys changed m b₂ b₀
               ∙ sym l ∙ sym (done (write name fork o (xs ++ ys) changed) image z),
         )
 

@@ -165,18 +165,20 @@ pub record MayChangeFile (image name : List ℕ) : Type 0 where
   pub exists : any (named name) (directory image) ≡ true
   pub fileUnlocked : flagsLock (byte (entryNamed name image) 0) ≡ false
 
--- the new blocks that a write of count bytes needs, as its refusal 17 asks
+-- the new blocks that a write of count bytes needs, as its refusal 17 asks: `newBlocks`, written out
 abbrev pub needs : List ℕ → List ℕ → Fork → ℕ → ℕ → ℕ
 needs image name fork offset count =
     let a = A (factsOf image) in
     let g = forkOf fork (entryNamed name image) in
     needed a (grown (g .logical) offset count) (blockCount a g)
 
+-- write: its room too
 pub record MayWrite (image name : List ℕ) (fork : Fork) (offset count : ℕ) : Type 0 where
   pub file : MayChangeFile image name
   pub within : offset ≤ forkOf fork (entryNamed name image) .logical
   pub room : needs image name fork offset count ≤ freeCount (factsOf image)
 
+-- cut, and write before its room is asked: the fork is at least so long
 pub record MayChangeFork (image name : List ℕ) (fork : Fork) (size : ℕ) : Type 0 where
   pub file : MayChangeFile image name
   pub within : size ≤ forkOf fork (entryNamed name image) .logical

@@ -69,7 +69,7 @@ linked-same e e′ n (x ∷ bs) h k b p =
 -- ---- the blocks' bytes
 
 -- the bytes of the blocks tell each block's
-pub bytes-parts : (s : LogicalBlock) (a : ℕ) (l m bs : List ℕ) → Inside s a l bs → length m ≡ length l → bytesOf s a l bs ≡ bytesOf s a m bs
+bytes-parts : (s : LogicalBlock) (a : ℕ) (l m bs : List ℕ) → Inside s a l bs → length m ≡ length l → bytesOf s a l bs ≡ bytesOf s a m bs
     → (b : ℕ) → 1 ≤ times b bs → part (byteOf s a b) a l ≡ part (byteOf s a b) a m
 unfolding bytesOf times
 bytes-parts s a l m [] w f e b p = absurd (omega arith)

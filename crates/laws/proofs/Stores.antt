@@ -1,4 +1,4 @@
--- Laws of runs of stores and of copies: which bytes and half-bytes stay, and numbers stored and read back.
+-- Laws of runs of stores and of copies: which bytes and half-bytes stay, runs before and over others, and numbers stored and read back.
 use Prim.Native.Nat.{ℕ, zero, suc, _+_, _-_, _*_, _/_, _%_, _≤_, _<_}
 use mathlib.Core.Path.{_≡_, refl, sym, ap, _∙_}
 use mathlib.Core.List.{List, [], _∷_, _++_, append-assoc}
@@ -32,19 +32,19 @@ pub take-sets : (vs l : List ℕ) (i n : ℕ) → n ≤ i → take n (sets l i v
 take-sets [] l i n h = refl
 take-sets (v ∷ vs) l i n h = take-sets vs (set l i v) (suc i) n (omega arith) ∙ take-set-le n l i v (omega arith)
 
--- stores over stores
+-- a store before others may come first
 set-sets : (vs l : List ℕ) (i j v : ℕ) → j < i → set (sets l i vs) j v ≡ sets (set l j v) i vs
 set-sets [] l i j v h = refl
 set-sets (w ∷ vs) l i j v h =
     set-sets vs (set l i w) (suc i) j v (omega arith) ∙ ap (λ (m : List ℕ). sets m (suc i) vs) (set-comm l i j w v (omega arith))
 
--- stores before others may come first
+-- and so may a run of them
 pub sets-comm : (ys vs l : List ℕ) (i p : ℕ) → p + length ys ≤ i → sets (sets l i vs) p ys ≡ sets (sets l p ys) i vs
 sets-comm [] vs l i p h = refl
 sets-comm (y ∷ ys) vs l i p h =
     ap (λ (m : List ℕ). sets m (suc p) ys) (set-sets vs l i p y (omega arith)) ∙ sets-comm ys vs (set l p y) i (suc p) (omega arith)
 
--- as many stores at the same place
+-- as many stores over others
 pub sets-sets : (xs ys l : List ℕ) (i : ℕ) → length xs ≡ length ys → sets (sets l i xs) i ys ≡ sets l i ys
 sets-sets [] [] l i h = refl
 sets-sets [] (y ∷ ys) l i h = absurd (omega arith)

@@ -13,7 +13,7 @@ use Rattle.model.specs.Facts.{factsOf, dirStart, dirLength, N, A, S, nextNumber
 use Rattle.model.specs.Map.{mapEntry, freeBlocks}
 use Rattle.model.specs.Directory.{directory, directoryBlocks, forkOf, forkBlocks, named, blockCount}
 use Rattle.model.specs.Check.{Accepted}
-use Rattle.model.specs.Calls.{grown, needed, entryNamed, rewritten, withFork}
+use Rattle.model.specs.Calls.{entryNamed, rewritten, withFork}
 use Rattle.model.specs.declared.LogicalBlock.{LogicalBlock}
 use Rattle.model.specs.declared.VolumeFacts.{VolumeFacts}
 use Rattle.model.specs.declared.ForkFacts.{ForkFacts}
@@ -27,11 +27,11 @@ use Rattle.laws.proofs.Refusals.{MayWrite, needs}
 use Rattle.laws.proofs.Acceptance.{area, readable-of}
 use Rattle.laws.proofs.TheEntry.{the-fork}
 use Rattle.laws.proofs.Writes.{its, write-accepted, now-blocks, now-once, now-inside, now-holds, now-length}
-use Rattle.laws.proofs.Writes.{left as leftBy, all as blocksBy}
+use Rattle.laws.proofs.Writes.{left as leftBy}
 use Rattle.laws.proofs.Twice.{fork-twice, rewritten-twice}
 use Rattle.laws.proofs.Stored.{Stored, stored-one, stored-then}
 use Rattle.laws.proofs.NextWrite.{write-stored, left-facts, left-fork, left-file, left-free, left-directory, left-within, left-count, left-needs}
-use Rattle.laws.proofs.Counts.{grown-then, needed-less, needed-then}
+use Rattle.laws.proofs.Counts.{grown-end, needed-less, size-then, taken-less, taken-then}
 
 -- the same places under other words
 cast : (s : LogicalBlock) (a n d k : ℕ) (image left bs bs′ : List ℕ) (o : ℕ) (xs rows rows′ : List ℕ) (free free′ : ℕ) → bs ≡ bs′ → rows ≡ rows′ → free ≡ free′
@@ -63,7 +63,7 @@ module _ (image : List ℕ) (acc : Accepted image) (name : List ℕ) (fork : For
   first-may = record { file = m .file; within = m .within; room = first-room }
 
   -- the image between
-  abbrev pub mid : List ℕ
+  abbrev mid : List ℕ
   mid = leftBy image acc name fork o xs changed first-may
 
   pub mid-accepted : Accepted mid
@@ -116,8 +116,8 @@ module _ (image : List ℕ) (acc : Accepted image) (name : List ℕ) (fork : For
   abbrev after : List ℕ
   after = blocksAfter (mapEntry image) (N f) (A f) g o (xs ++ ys)
 
-  abbrev blocks : List (List ℕ)
-  blocks = rewritten name (withFork fork (A f) size after changed) (directoryBlocks f image)
+  abbrev rows : List (List ℕ)
+  rows = rewritten name (withFork fork (A f) size after changed) (directoryBlocks f image)
 
   -- the blocks that the second write takes
   abbrev rest : List ℕ
@@ -152,23 +152,15 @@ module _ (image : List ℕ) (acc : Accepted image) (name : List ℕ) (fork : For
 
   -- it finds the logical length, the new blocks, the blocks, the directory and the free count that make the whole's
   size-same : sizeAfter fork₁ q ys ≡ size
-  size-same = grown-then (g .logical) o (length xs) (length ys) ∙ ap (grown (g .logical) o) (sym (length-append xs ys))
-
-  -- the fork's blocks before
-  abbrev had : ℕ
-  had = length (forkBlocks (mapEntry image) (A f) g)
+  size-same = size-then (mapEntry image) (A f) g o xs ys after₁
 
   count-same : newCount (mapEntry mid) (A f) fork₁ q ys ≡ count - count₁
   count-same =
-      ap (needed (A f) (sizeAfter fork₁ q ys))
+      taken-then (mapEntry image) (A f) g o xs ys (mapEntry mid) after₁
       (ap length (now-blocks image acc name fork o xs changed first-may) ∙ now-length image acc name fork o xs changed first-may)
-      ∙ needed-then (A f) (g .logical) o (length xs) (length ys) had count₁
-      ∙ ap (λ (k : ℕ). needed (A f) (grown (g .logical) o k) had - count₁) (sym (length-append xs ys))
 
   count-less : count₁ ≤ count
-  count-less =
-      subst (λ (k : ℕ). count₁ ≤ needed (A f) (grown (g .logical) o k) had) (sym (length-append xs ys))
-      (needed-less (A f) (g .logical) o (length xs) (length ys) had (area image acc .some))
+  count-less = taken-less (mapEntry image) (A f) g o xs ys (area image acc .some)
 
   abbrev after₂ : List ℕ
   after₂ = blocksAfter (mapEntry mid) (N f) (A f) fork₁ q ys
@@ -186,7 +178,7 @@ module _ (image : List ℕ) (acc : Accepted image) (name : List ℕ) (fork : For
       ap (λ (i : ℕ). old ++ take i free) k ∙ ap (λ (v : List ℕ). old ++ v) (take-add count₁ (count - count₁) free)
       ∙ sym (append-assoc old (take count₁ free) rest)
 
-  rows-same : flat (rewritten name (withFork fork (A f) (sizeAfter fork₁ q ys) after₂ changed) (directoryBlocks f mid)) ≡ flat blocks
+  rows-same : flat (rewritten name (withFork fork (A f) (sizeAfter fork₁ q ys) after₂ changed) (directoryBlocks f mid)) ≡ flat rows
   rows-same =
       let h = withFork fork (A f) size after changed in
       let h₁ = withFork fork (A f) size₁ after₁ changed in
@@ -199,9 +191,9 @@ module _ (image : List ℕ) (acc : Accepted image) (name : List ℕ) (fork : For
   free-same : freeCount f - count₁ - newCount (mapEntry mid) (A f) fork₁ q ys ≡ freeCount f - count
   free-same = omega (arith, count-same, count-less)
 
-  second : Stored (S f) (A f) (N f) (512 * dirStart f .0) (512 * dirLength f) mid left₂ (after₁ ++ rest) q ys (flat blocks) (freeCount f - count)
+  second : Stored (S f) (A f) (N f) (512 * dirStart f .0) (512 * dirLength f) mid left₂ (after₁ ++ rest) q ys (flat rows) (freeCount f - count)
   unfolding withCounts directoryBlocks
-  second = cast (S f) (A f) (N f) (512 * dirStart f .0) (512 * dirLength f) mid left₂ _ (after₁ ++ rest) q ys _ (flat blocks) _ (freeCount f - count)
+  second = cast (S f) (A f) (N f) (512 * dirStart f .0) (512 * dirLength f) mid left₂ _ (after₁ ++ rest) q ys _ (flat rows) _ (freeCount f - count)
       blocks-second rows-same free-same seen
 
   -- ---- the image
@@ -212,24 +204,27 @@ module _ (image : List ℕ) (acc : Accepted image) (name : List ℕ) (fork : For
   none-twice : Once (after₁ ++ rest)
   none-twice = subst Once blocks-whole (now-once image acc name fork o (xs ++ ys) changed m)
 
-  first-fits : o + length xs ≤ length after₁ * A f
-  unfolding grown
-  first-fits = omega (arith, now-holds image acc name fork o xs changed first-may)
+  first-holds : o + length xs ≤ length after₁ * A f
+  first-holds = omega (arith, grown-end (g .logical) o (length xs), now-holds image acc name fork o xs changed first-may)
 
-  whole-fits : o + length xs + length ys ≤ length (after₁ ++ rest) * A f
-  unfolding grown
-  whole-fits =
+  whole-holds : o + length xs + length ys ≤ length (after₁ ++ rest) * A f
+  whole-holds =
       subst (λ (bs : List ℕ). o + length xs + length ys ≤ length bs * A f) blocks-whole
-      (omega (arith, length-append xs ys, now-holds image acc name fork o (xs ++ ys) changed m))
+      (omega (
+        arith,
+        length-append xs ys,
+        grown-end (g .logical) o (length (xs ++ ys)),
+        now-holds image acc name fork o (xs ++ ys) changed m,
+      ))
 
   -- left by a write of both at o
   abbrev Both : List ℕ → List ℕ → Type 0
-  Both l bs = Stored (S f) (A f) (N f) (512 * dirStart f .0) (512 * dirLength f) image l bs o (xs ++ ys) (flat blocks) (freeCount f - count)
+  Both l bs = Stored (S f) (A f) (N f) (512 * dirStart f .0) (512 * dirLength f) image l bs o (xs ++ ys) (flat rows) (freeCount f - count)
 
   both : Both left₂ (after₁ ++ rest)
   both =
       stored-then (S f) (A f) (N f) (512 * dirStart f .0) (512 * dirLength f) (area image acc .some) (area image acc .low) image mid left₂
-      after₁ rest o xs ys _ (flat blocks) _ (freeCount f - count) in-image none-twice first-fits whole-fits
+      after₁ rest o xs ys _ (flat rows) _ (freeCount f - count) in-image none-twice first-holds whole-holds
       (write-stored image acc name fork o xs changed first-may) second
 
   whole : Both left (after₁ ++ rest)
@@ -238,4 +233,4 @@ module _ (image : List ℕ) (acc : Accepted image) (name : List ℕ) (fork : For
   pub two-parts : Bytes left₂ → Bytes left → left₂ ≡ left
   two-parts b₂ b =
       stored-one (S f) (A f) (N f) (512 * dirStart f .0) (512 * dirLength f) (area image acc .some) (area image acc .low) image left₂ left
-      (after₁ ++ rest) o (xs ++ ys) (flat blocks) (freeCount f - count) in-image b₂ b both whole
+      (after₁ ++ rest) o (xs ++ ys) (flat rows) (freeCount f - count) in-image b₂ b both whole

@@ -1,5 +1,5 @@
--- The law for two parts over the calls on wrapped files: the data inside keep it, and what stands around them is the same after each part
--- as after the whole.
+-- The law for two parts over the calls on wrapped files: the data inside keep it, and around them the last data checksum stands over the one
+-- before.
 use Prim.Native.Nat.{ℕ, _+_}
 use mathlib.Core.Path.{_≡_, refl, sym, ap, _∙_}
 use mathlib.Core.List.{List, _++_}
@@ -23,14 +23,17 @@ container-never : (file : List ℕ) → containerVerdict file ≡ 17 → ⊥
 unfolding containerVerdict
 container-never file = other (fires22 file) 22 refl (other (fires23 file) 23 refl (other (fires24 file) 24 refl no-check))
 
--- a call that gets 0 or 17 has a sound container
+-- where the container can't have given the number, it is sound
+passes : (call : Call) (file : List ℕ) (n : ℕ) → (containerVerdict file ≡ n → containerVerdict file ≡ 0) → fileRefusal call file ≡ n
+    → containerVerdict file ≡ 0
+passes call file n h e =
+    elim (ℕ-discrete (containerVerdict file) 0) [ yes v ↦ v | no v ↦ h (sym (outer-refusal call file v) ∙ e) ]
+
 passes-0 : (call : Call) (file : List ℕ) → fileRefusal call file ≡ 0 → containerVerdict file ≡ 0
-passes-0 call file e =
-    elim (ℕ-discrete (containerVerdict file) 0) [ yes v ↦ v | no v ↦ absurd (v (sym (outer-refusal call file v) ∙ e)) ]
+passes-0 call file = passes call file 0 (λ v. v)
 
 passes-17 : (call : Call) (file : List ℕ) → fileRefusal call file ≡ 17 → containerVerdict file ≡ 0
-passes-17 call file e =
-    elim (ℕ-discrete (containerVerdict file) 0) [ yes v ↦ v | no v ↦ absurd (container-never file (sym (outer-refusal call file v) ∙ e)) ]
+passes-17 call file = passes call file 17 (λ v. absurd (container-never file v))
 
 module _ (name : List ℕ) (fork : Fork) (changed : ℕ) where
   inner : Parts refusal after name fork changed
@@ -46,7 +49,7 @@ module _ (name : List ℕ) (fork : Fork) (changed : ℕ) where
     abbrev both : Call
     both = write name fork o (xs ++ ys) changed
 
-    -- the data inside, the first part's and the whole's, and the file that the first part leaves
+    -- the data inside, what the first part leaves of them, and the file that it leaves
     abbrev data₀ : List ℕ
     data₀ = inside file
 

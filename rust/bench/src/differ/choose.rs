@@ -214,7 +214,7 @@ fn new_length(random: &mut Random) -> usize {
     }
 }
 
-/// A write within the fork, to its end or a block's end, or about what fills the volume.
+/// A write at an offset about the fork's end.
 fn write(random: &mut Random, target: Target) -> Call {
     let offset = about(random, target.logical as u64);
     let length = written_length(random, &target, offset);
@@ -250,6 +250,7 @@ fn room(target: &Target, offset: u64) -> usize {
     (most as u64).saturating_sub(offset) as usize
 }
 
+/// Bytes within the fork, to its end or a block's end, or about what fills the volume.
 fn written_length(random: &mut Random, target: &Target, offset: u64) -> usize {
     let (from, size) = (offset.min(1 << 30) as usize, target.block_size);
     let end = target.physical.saturating_sub(from);
