@@ -29,7 +29,7 @@ use Rattle.laws.proofs.Reorder.{any-map}
 use Rattle.laws.proofs.Entry.{fork-keeps, fork-named, fork-fields, fork-flags}
 use Rattle.laws.proofs.Block.{on-alike, keeps-sized}
 use Rattle.laws.proofs.Blocks.{Whole, clean-whole, whole-length, Stays, rewritten-stays}
-use Rattle.laws.proofs.Image.{blocks-count, with-blocks, with-length, with-before, with-behind, free-blocks, free-length}
+use Rattle.laws.proofs.Image.{blocks-count, with-blocks, with-length, with-before, with-behind, free-blocks}
 use Rattle.laws.proofs.DirectorySteps.{clean-now}
 use Rattle.laws.proofs.Refusals.{MayChangeFile, MayWrite, needs}
 use Rattle.laws.proofs.Acceptance.{readable-of}
@@ -143,13 +143,9 @@ module _ (image : List ℕ) (acc : Accepted image) (name : List ℕ) (fork : For
       outside-free (512 * dirStart f .0 + j) (λ u v. omega (arith, acc .facts .layout .dirBehind))
       ∙ paste-in stored (512 * dirStart f .0) (flat rows) (512 * dirLength f) within (omega (arith, whole-length rows whole, as-many)) j q
 
-  left-size : length left ≡ length image
-  unfolding written
-  left-size = free-length rest listed ∙ listed-size ∙ frame image acc name fork o xs changed m .size
-
   pub write-stored : Stored (S f) (A f) (N f) (512 * dirStart f .0) (512 * dirLength f) image left after o xs (flat rows) rest
   write-stored = record {
-    size = left-size;
+    size = r .step .long;
     plain = λ j l u v w. outside-free j u ∙ outside-directory j w ∙ outside-map j l v;
     counted = left-counted;
     listed = left-listed;
