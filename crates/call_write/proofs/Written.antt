@@ -4,13 +4,13 @@ use mathlib.Core.Path.{_≡_, sym, _∙_}
 use mathlib.Core.List.{List}
 use lib.ListN.{length}
 use Rattle.model.specs.Bytes.{Bytes}
-use Rattle.model.specs.Calls.{Does, Fits, newBlocks, written, change}
+use Rattle.model.specs.Calls.{Does, Fits, neededBlocks, written, change}
 use Rattle.model.specs.Calls.Call.{write}
 use Rattle.model.specs.declared.VolumeFacts.{VolumeFacts}
 use Rattle.model.specs.declared.Fork.{Fork}
 use Rattle.model.specs.declared.ForkFacts.{ForkFacts}
 use Rattle.directory.specs.declared.EntryAt.{EntryAt}
-use Rattle.forks.specs.declared.NewBlocks.{NewBlocks}
+use Rattle.forks.specs.declared.NeededBlocks.{NeededBlocks}
 use Rattle.forks.specs.Growth.{Grows}
 use Rattle.files.specs.Told.{toldNumber}
 use Rattle.files.specs.Leaves.{Written}
@@ -27,14 +27,14 @@ write-fits name fork offset bytes changed letters o content d = (letters, o, con
 module _ {f : VolumeFacts} {image name : List ℕ} {fork : Fork} {offset : ℕ} {e : EntryAt} {g : ForkFacts}
     (r : Readable f image) (h : ChangeableFork image name fork offset e g) where
   -- 17 or 0
-  number-is : (bytes : List ℕ) (new : NewBlocks) → Grows f g offset (length bytes) new → behindOffset image name fork offset bytes ≡ new .number
-  unfolding newBlocks
+  number-is : (bytes : List ℕ) (new : NeededBlocks) → Grows f g offset (length bytes) new → behindOffset image name fork offset bytes ≡ new .number
+  unfolding neededBlocks
   number-is bytes new w =
       let n = rw (r .facts, changed-fork-is r h) at (w .number) in
       sym n
 
   module _ (octets : Bytes image) {bytes : List ℕ} {changed : ℕ} (fits : Fits (write name fork offset bytes changed))
-      (new : NewBlocks) (w : Grows f g offset (length bytes) new) where
+      (new : NeededBlocks) (w : Grows f g offset (length bytes) new) where
     pub write-full : (new .number ≡ 0 → ⊥) → Does (write name fork offset bytes changed) image (toldNumber (new .number)) image
     write-full z = refused-own r octets write-changing fits (h .file) (not-beyond r h) (number-is bytes new w) z
 

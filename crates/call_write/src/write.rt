@@ -4,7 +4,8 @@ ghost use Rattle.files.specs.Lookup.{Readable};
 ghost use Rattle.files.specs.Told.{toldNumber};
 use files::NamedFork;
 use files::changeable_fork;
-use forks::new_blocks;
+use forks::needed_blocks;
+use forks::taken_blocks;
 use model::Fork;
 use model::VolumeFacts;
 
@@ -25,11 +26,12 @@ pub fn serve_write(
         NamedFork::Refused(number) => number,
         NamedFork::At(e, g) => {
             let at = offset as usize;
-            let new = new_blocks(f, g, at, bytes.len());
-            if new.number != 0 {
-                return new.number;
+            let needed = needed_blocks(f, g, at, bytes.len());
+            if needed.number != 0 {
+                return needed.number;
             }
-            crate::grow::grow_fork(image, f, e, fork, g, new.blocks, at, bytes, changed);
+            let taken = taken_blocks(f, g, needed.blocks);
+            crate::grow::grow_fork(image, f, e, fork, g, taken, at, bytes, changed);
             0
         }
     }

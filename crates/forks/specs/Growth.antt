@@ -4,12 +4,12 @@ use mathlib.Core.Path.{_≡_}
 use lib.Dec.{ltb}
 use Rattle.model.specs.Facts.{freeCount}
 use Rattle.model.specs.Check.{orElse}
-use Rattle.model.specs.Calls.{newBlocks}
+use Rattle.model.specs.Calls.{neededBlocks}
 use Rattle.model.specs.declared.VolumeFacts.{VolumeFacts}
 use Rattle.model.specs.declared.ForkFacts.{ForkFacts}
-use Rattle.forks.specs.declared.NewBlocks.{NewBlocks}
+use Rattle.forks.specs.declared.NeededBlocks.{NeededBlocks}
 
 -- r says 17 where the new blocks of a write of n bytes at o in the fork g exceed those free, and else how many they are
-pub record Grows (f : VolumeFacts) (g : ForkFacts) (o n : ℕ) (r : NewBlocks) : Type 0 where
-  pub number : r .number ≡ orElse (ltb (freeCount f) (newBlocks f g o n)) 17 0
-  pub blocks : r .blocks ≡ orElse (ltb (freeCount f) (newBlocks f g o n)) 0 (newBlocks f g o n)
+pub record Grows (f : VolumeFacts) (g : ForkFacts) (o n : ℕ) (r : NeededBlocks) : Type 0 where
+  pub number : r .number ≡ orElse (ltb (freeCount f) (neededBlocks f g o n)) 17 0
+  pub blocks : r .blocks ≡ orElse (ltb (freeCount f) (neededBlocks f g o n)) 0 (neededBlocks f g o n)

@@ -1,9 +1,11 @@
-// The blocks that a fork needs. No sum wraps, whatever is asked.
+// The blocks that a fork needs, and those that a write takes. No sum wraps, whatever is asked.
 ghost use mathlib.Core.Path.{_≡_};
 ghost use Prim.Native.Nat.{_+_, _≤_, max};
-ghost use Rattle.model.specs.Calls.{fewest};
+ghost use Rattle.model.specs.Facts.{clump, freeCount};
+ghost use Rattle.model.specs.Directory.{blockCount};
+ghost use Rattle.model.specs.Calls.{fewest, taken};
 ghost use Rattle.forks.specs.Growth.{Grows};
-use crate::NewBlocks;
+use crate::NeededBlocks;
 use model::ForkFacts;
 use model::VolumeFacts;
 use model::block_count;
@@ -37,12 +39,12 @@ pub fn fewest_blocks(n: u32, a: u32) -> u32
 }
 
 // The new blocks that a write of count bytes at the offset needs, or 17 where they exceed those free.
-pub fn new_blocks(f: VolumeFacts, g: ForkFacts, offset: usize, count: usize) -> NewBlocks
+pub fn needed_blocks(f: VolumeFacts, g: ForkFacts, offset: usize, count: usize) -> NeededBlocks
     requires { ⌜ (512 ≤ f .«block_size») × (f .«block_size» ≤ 32768) × (offset ≤ g .logical) ⌝ }
     ensures { λ r. ⌜ Grows f g offset count r ⌝ }
 {
     if TOO_MANY <= count {
-        return NewBlocks {
+        return NeededBlocks {
             number: 17,
             blocks: 0,
         };
@@ -51,20 +53,52 @@ pub fn new_blocks(f: VolumeFacts, g: ForkFacts, offset: usize, count: usize) -> 
     let size = larger(g.logical as usize, offset + count);
     let due = blocks_for(size, f.block_size as usize);
     if due <= has {
-        return NewBlocks {
+        return NeededBlocks {
             number: 0,
             blocks: 0,
         };
     }
     let need = due - has;
     if (f.free_blocks as usize) < need {
-        return NewBlocks {
+        return NeededBlocks {
             number: 17,
             blocks: 0,
         };
     }
-    NewBlocks {
+    NeededBlocks {
         number: 0,
         blocks: need as u16,
     }
+}
+
+// How many blocks a clump has: one, unless the clump size is a multiple of A and at least A.
+fn clump_blocks(f: VolumeFacts) -> u32
+    requires { ⌜ 512 ≤ f .«block_size» ⌝ }
+    ensures { λ r. ⌜ r ≡ clump f ⌝ }
+{
+    if f.clump_size < f.block_size {
+        return 1;
+    }
+    if f.clump_size % f.block_size != 0 {
+        return 1;
+    }
+    f.clump_size / f.block_size
+}
+
+// The new blocks that a write takes which needs so many: with them the fork has whole clumps, or just those where fewer are free.
+pub fn taken_blocks(f: VolumeFacts, g: ForkFacts, need: u16) -> u16
+    requires { ⌜ 512 ≤ f .«block_size» ⌝ }
+    ensures { λ r. ⌜ r ≡ taken (clump f) (freeCount f) (blockCount (f .«block_size») g) need ⌝ }
+{
+    if need == 0 {
+        return 0;
+    }
+    let has = block_count(g, f.block_size) as usize;
+    let clump = clump_blocks(f) as usize;
+    let whole = blocks_for(has + need as usize, clump) * clump;
+    let more = whole - has;
+    if (f.free_blocks as usize) < more {
+        return need;
+    }
+    more as u16
 }

@@ -11,7 +11,7 @@ use lib.Dec.{eqb, leb}
 use borrow.Author.Tests.{not-false, eqb-true, eq-eqb, leb-false}
 use Rattle.model.specs.Lists.{any, distinct, keep, first, placeOf}
 use Rattle.model.specs.Bytes.{byte, be16, be32}
-use Rattle.model.specs.Facts.{factsOf, A, nextNumber, freeCount, isLocked, withCounts, noFacts}
+use Rattle.model.specs.Facts.{factsOf, A, clump, nextNumber, freeCount, isLocked, withCounts, noFacts}
 use Rattle.model.specs.Directory.{directory, numberIn, nameIn, finderIn, forkIn, forkOf, wide, entryIn}
 use Rattle.model.specs.Directory.{noEntry, flagsLock, blockCount, sameName, named}
 use Rattle.model.specs.Check.{sameNumbers, sameNames, Accepted}
@@ -20,7 +20,7 @@ use Rattle.model.specs.Calls.{readCount, copied, only, tellsFacts, tellsEntry, 
 use Rattle.model.specs.Calls.Call.{check, entry, find, read}
 use Rattle.history.specs.History.{Held, File, History, empty, noFile, heldOf, freeOf, factsNow, called, fileCalled, knownTo, unplaced}
 use Rattle.history.specs.History.{withoutStarts, toldBy, lengthsOf, entryOf, toldOnly, fileNumbered, says, heldIn, fileIn, filesIn, Agrees}
-use Rattle.history.specs.History.{asked, writes, rise}
+use Rattle.history.specs.History.{asked, rise}
 use Rattle.model.specs.declared.VolumeFacts.{VolumeFacts}
 use Rattle.model.specs.declared.Fork.{Fork}
 use Rattle.model.specs.declared.Fork.the-variants.{Data, Resource}
@@ -39,7 +39,7 @@ use Rattle.laws.proofs.Acceptance.{readable-of, whole, lengths, name-length, na
 -- the new blocks that a write needs
 pub rise-needed : (a o : ℕ) (xs : List ℕ) (g : Held) → o ≤ length (g .bytes)
     → rise a o xs g ≡ needed a (grown (length (g .bytes)) o (length xs)) (g .count)
-unfolding rise writes needed grown
+unfolding rise needed grown
 rise-needed a o xs g h = rw (length-overwritten (g .bytes) o xs h) (omega arith)
 
 -- ---- an image that reads as a history
@@ -49,6 +49,10 @@ module _ (image : List ℕ) (h : History) (a : Agrees image h) where
   pub same-A : A (factsOf image) ≡ A (h .facts)
   unfolding factsNow withCounts
   same-A = ap (λ (f : VolumeFacts). A f) (a .facts)
+
+  pub same-clump : clump (factsOf image) ≡ clump (h .facts)
+  unfolding factsNow withCounts clump
+  same-clump = ap clump (a .facts)
 
   pub same-next : nextNumber (factsOf image) ≡ nextNumber (h .facts)
   unfolding factsNow withCounts

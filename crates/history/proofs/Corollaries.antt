@@ -12,14 +12,14 @@ use lib.Dec.{eqb, ltb}
 use borrow.Author.Tests.{not-false, eqb-true, eq-eqb, ltb-false, le-ltb}
 use Rattle.model.specs.Lists.{any, flat, none, Reordered}
 use Rattle.model.specs.Bytes.{Bytes, part}
-use Rattle.model.specs.Facts.{factsOf, N, A, freeCount}
+use Rattle.model.specs.Facts.{factsOf, N, A, clump, freeCount}
 use Rattle.model.specs.Map.{mapEntry}
 use Rattle.model.specs.Directory.{directory, forkOf, forksIn, blockCount, sameName}
 use Rattle.model.specs.Check.{Accepted}
 use Rattle.model.specs.Calls.{Call, Answer, nameOf, forkGiven, Known, badName, refuses, entryNamed, knownIn, readCount, copied}
-use Rattle.model.specs.Calls.{newBlocks, answer, after, lent, Does}
+use Rattle.model.specs.Calls.{neededBlocks, answer, after, lent, Does}
 use Rattle.model.specs.Calls.Call.{read, write, delete, rename}
-use Rattle.history.specs.History.{File, History, blocksOf, noFile, heldOf, called, fileCalled, knownTo, declines, writes}
+use Rattle.history.specs.History.{Held, File, History, blocksOf, freeOf, noFile, heldOf, called, fileCalled, knownTo, declines, writes}
 use Rattle.model.specs.Bytes.{overwritten}
 use Rattle.history.specs.History.{changedFork, retitledFile, onCalled, moves, step, touches, datesGiven, Told, toldBy, toldOnly, says, tells, filesIn}
 use Rattle.history.specs.History.{reading, Agrees, Event, Run, is18, asked, compared, RoomRule, InStep, Holds, EveryRun}
@@ -86,8 +86,8 @@ deleting image name left given x acc m n i =
 
 only-full : (image name : List ℕ) (fork : Fork) (offset : ℕ) (bytes : List ℕ) (changed : ℕ) (given : Answer) (left : List ℕ)
     → Accepted image → Does (write name fork offset bytes changed) image given left → given .number ≡ 17
-    → freeCount (factsOf image) < newBlocks (factsOf image) (forkOf fork (entryNamed name image)) offset (length bytes)
-unfolding newBlocks RoomRule reading knownTo knownIn withFull EveryRun Run filesIn
+    → freeCount (factsOf image) < neededBlocks (factsOf image) (forkOf fork (entryNamed name image)) offset (length bytes)
+unfolding neededBlocks RoomRule reading knownTo knownIn withFull EveryRun Run filesIn
 only-full image name fork offset bytes changed given left acc m n =
     let f = factsOf image in
     let e : Event = record { call = write name fork offset bytes changed; given = given; left = left } in
@@ -232,14 +232,17 @@ module _ (name : List ℕ) (fork : Fork) where
 
   -- the named file after a write
   module _ (h : History) (o : ℕ) (xs : List ℕ) (changed : ℕ) where
+    abbrev puts : Held → Held
+    puts = writes (A (h .facts)) (clump (h .facts)) (freeOf h) o xs
+
     rewrites : File → File
-    rewrites x = changedFork fork (writes (A (h .facts)) o xs) changed x
+    rewrites x = changedFork fork puts changed x
 
     same-title : (x : File) → called name (rewrites x) ≡ called name x
     unfolding called rewrites changedFork
     same-title x = go fork
       where
-        go : (which : Fork) → sameName name (changedFork which (writes (A (h .facts)) o xs) changed x .name) ≡ sameName name (x .name)
+        go : (which : Fork) → sameName name (changedFork which puts changed x .name) ≡ sameName name (x .name)
         go Data = refl
         go Resource = refl
 
@@ -247,7 +250,7 @@ module _ (name : List ℕ) (fork : Fork) where
     unfolding rewrites changedFork writes heldOf
     new-bytes x = go fork
       where
-        go : (which : Fork) → heldOf which (changedFork which (writes (A (h .facts)) o xs) changed x) .bytes ≡ overwritten (heldOf which x .bytes) o xs
+        go : (which : Fork) → heldOf which (changedFork which puts changed x) .bytes ≡ overwritten (heldOf which x .bytes) o xs
         go Data = refl
         go Resource = refl
 

@@ -6,10 +6,10 @@ use mathlib.Core.Bool.{Bool, true, false, _&&_, _||_, not, cond}
 use mathlib.Core.List.{List, [], _∷_, _++_, map}
 use mathlib.Core.Logic.{_↔_}
 use lib.ListN.{length, getD, take, drop}
-use lib.Dec.{eqb, ltb}
+use lib.Dec.{eqb, leb}
 use Rattle.model.specs.Lists.{any, keep, first, Reordered, times}
 use Rattle.model.specs.Bytes.{byte, be32, half, Within, overwritten, Bytes}
-use Rattle.model.specs.Facts.{factsOf, dirStart, dirLength, N, A, S, nextNumber, freeCount, isLocked, blockByte, withCounts, noFacts}
+use Rattle.model.specs.Facts.{factsOf, dirStart, dirLength, N, A, S, clump, nextNumber, freeCount, isLocked, blockByte, withCounts, noFacts}
 use Rattle.model.specs.Map.{mapEntry}
 use Rattle.model.specs.Directory.{directory, numberIn, nameIn, finderIn, forkOf, wide, noEntry, flagsLock, blockCount, forkBlocks, sameName}
 use Rattle.model.specs.Check.{Accepted}
@@ -113,12 +113,24 @@ newFile number name finder created changed = record {
   resource = empty;
 }
 
--- The count becomes the larger of itself and the fewest blocks that hold all.
-unfoldable pub writes : ℕ → ℕ → List ℕ → Held → Held
-writes a o xs g = record {
-  bytes = overwritten (g .bytes) o xs;
-  count = max (g .count) (fewest (length (overwritten (g .bytes) o xs)) a);
-}
+-- Write: the fewest blocks of a bytes that hold all
+abbrev pub holding : ℕ → ℕ → List ℕ → Held → ℕ
+holding a o xs g = fewest (length (overwritten (g .bytes) o xs)) a
+
+-- The count becomes the larger of itself and these; the rise is the new blocks needed, before rounding.
+unfoldable pub rise : ℕ → ℕ → List ℕ → Held → ℕ
+rise a o xs g = max (g .count) (holding a o xs g) - g .count
+
+-- The history counts the rounded blocks (document 02, T-07): a count below the fewest becomes these, rounded up to whole clumps of c
+-- blocks if enough are free for that.
+unfoldable pub risen : ℕ → ℕ → ℕ → ℕ → ℕ
+risen c free count least =
+    let whole = fewest least c * c in
+    cond (leb least count) count (cond (leb whole (count + free)) whole least)
+
+-- Write keeps the bytes before o, puts the n given, keeps those from o+n on.
+unfoldable pub writes : ℕ → ℕ → ℕ → ℕ → List ℕ → Held → Held
+writes a c free o xs g = record { bytes = overwritten (g .bytes) o xs; count = risen c free (g .count) (holding a o xs g) }
 
 -- Cut keeps the first n bytes and the fewest blocks for them.
 unfoldable pub cuts : ℕ → ℕ → Held → Held
@@ -225,10 +237,6 @@ unfoldable pub fileNumbered : ℕ → History → File
 fileNumbered n h = first (λ x. eqb (x .number) n) noFile (h .files)
 
 -- ---- What 17 asks
-
--- the new blocks that a write needs of a held fork: the rise of its count
-unfoldable pub rise : ℕ → ℕ → List ℕ → Held → ℕ
-rise a o xs g = writes a o xs g .count - g .count
 
 -- a write passes the checks before 17, and needs more new blocks than are free
 pub record NoRoom (h : History) (name : List ℕ) (fork : Fork) (offset : ℕ) (bytes : List ℕ) : Type 0 where
@@ -370,7 +378,10 @@ following (create name finder created changed) = alters name
     (λ was x. (x .created ≡ created) × (x .changed ≡ changed))
 -- A write that passes the checks before 17 gets 17 exactly when it needs more new blocks than are free.
 following (write name fork offset bytes changed) = alters name
-    (λ h. record { facts = h .facts; files = map (onCalled name (changedFork fork (writes (A (h .facts)) offset bytes) changed)) (h .files) })
+    (λ h. record {
+      facts = h .facts;
+      files = map (onCalled name (changedFork fork (writes (A (h .facts)) (clump (h .facts)) (freeOf h) offset bytes) changed)) (h .files);
+    })
     (λ image. blocksNamed image name fork)
     (λ h number. (number ≡ 17) ↔ NoRoom h name fork offset bytes)
     (dateChanged changed)

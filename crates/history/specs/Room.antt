@@ -6,16 +6,16 @@ use lib.ListN.{length}
 use Rattle.model.specs.Facts.{factsOf, N, freeCount}
 use Rattle.model.specs.Directory.{forkOf}
 use Rattle.model.specs.Check.{Accepted}
-use Rattle.model.specs.Calls.{Answer, Does, newBlocks, entryNamed}
+use Rattle.model.specs.Calls.{Answer, Does, neededBlocks, entryNamed}
 use Rattle.model.specs.Calls.Call.{write}
 use Rattle.history.specs.History.{blocksOf, filesIn}
 use Rattle.model.specs.declared.Fork.{Fork}
 
--- A write is refused for room only when its new blocks exceed the free blocks; and on every accepted image free blocks and all
--- forks' blocks together are N.
+-- A write is refused for room only when the new blocks that it needs, before rounding, exceed the free blocks; and on every accepted
+-- image free blocks and all forks' blocks together are N.
 unfoldable pub Room : Type 0
 Room =
     ((image name : List ℕ) (fork : Fork) (offset : ℕ) (bytes : List ℕ) (changed : ℕ) (given : Answer) (left : List ℕ)
     → Accepted image → Does (write name fork offset bytes changed) image given left → given .number ≡ 17
-    → freeCount (factsOf image) < newBlocks (factsOf image) (forkOf fork (entryNamed name image)) offset (length bytes))
+    → freeCount (factsOf image) < neededBlocks (factsOf image) (forkOf fork (entryNamed name image)) offset (length bytes))
     × ((image : List ℕ) → Accepted image → freeCount (factsOf image) + blocksOf (filesIn image) ≡ N (factsOf image))

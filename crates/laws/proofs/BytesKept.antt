@@ -15,8 +15,8 @@ use Rattle.model.specs.Map.{mapEntry, freeBlocks, putChain, putFree}
 use Rattle.model.specs.Directory.{entrySize, endsAt, nextPlace, readAt, entries, readEnd, cutBlocks, directoryBlocks, listing, directory}
 use Rattle.model.specs.Directory.{forkPlace, forkOf, forksIn, blockCount, forkBlocks, named}
 use Rattle.model.specs.Check.{SoundFork, Accepted}
-use Rattle.model.specs.Calls.{fewest, grown, needed, entryNamed, hasRoom, putContent, filled, dateAndName, newEntry, placed, removedIn, removed}
-use Rattle.model.specs.Calls.{onNamed, rewrittenIn, rewritten, withFork, withDirectory, withFiles, withNext, withFree}
+use Rattle.model.specs.Calls.{fewest, grown, needed, neededBlocks, takenBlocks, entryNamed, hasRoom, putContent, filled, dateAndName, newEntry}
+use Rattle.model.specs.Calls.{placed, removedIn, removed, onNamed, rewrittenIn, rewritten, withFork, withDirectory, withFiles, withNext, withFree}
 use Rattle.model.specs.Calls.{created, written, shortened, deleted, sameSize, retitled, renamedIn, renamed, change, Fits}
 use Rattle.model.specs.Calls.Call.{create, write, cut, delete, rename}
 use Rattle.model.specs.declared.VolumeFacts.{VolumeFacts}
@@ -29,11 +29,12 @@ use Rattle.laws.proofs.Chains.{length-forkBlocks, good}
 use Rattle.laws.proofs.Free.{times-take, free-in}
 use Rattle.laws.proofs.Joins.{InMap, in-map-head}
 use Rattle.laws.proofs.Content.{fewest-holds}
+use Rattle.laws.proofs.Counts.{taken-are-free}
 use Rattle.laws.proofs.MapChecks.{blockCounts, all-blocks}
 use Rattle.laws.proofs.Octets.{Octets, octets, bytes, octets-take, octets-drop, octets-cons, octets-append, octets-zeros}
 use Rattle.laws.proofs.Octets.{octets-u16, octets-u32, bytes-be32}
 use Rattle.laws.proofs.Octets.{bytes-putChain, bytes-putFree, bytes-putContent, bytes-paste, bytes-sets, octets-sets}
-use Rattle.laws.proofs.MapSteps.{sizeAfter, newCount, blocksAfter}
+use Rattle.laws.proofs.MapSteps.{sizeAfter, blocksAfter}
 use Rattle.laws.proofs.Blocks.{cut-count}
 use Rattle.laws.proofs.Reorder.{first-found}
 use Rattle.laws.proofs.Refusals.{MayCreate, MayChangeFile, MayWrite, MayChangeFork, MayRename}
@@ -353,16 +354,16 @@ written-low image acc name fork o count may =
 
 pub written-bytes : (image : List ℕ) → Accepted image → Bytes image → (name : List ℕ) (fork : Fork) (offset : ℕ) (bytes : List ℕ) (changed : ℕ)
     → Fits (write name fork offset bytes changed) → MayWrite image name fork offset (length bytes) → Bytes (change (write name fork offset bytes changed) image)
-unfolding change written Fits
+unfolding change written Fits neededBlocks
 written-bytes image acc h name fork o xs changed fits may =
     let f = factsOf image in
     let g = forkOf fork (entryNamed name image) in
     let found = may .file .exists in
     let old = forkBlocks (mapEntry image) (A f) g in
     let size = sizeAfter g o xs in
-    let new = newCount (mapEntry image) (A f) g o xs in
-    let all = blocksAfter (mapEntry image) (N f) (A f) g o xs in
-    let enough : new ≤ freeCount f = rw (length-forkBlocks (mapEntry image) (A f) g) (may .room) in
+    let new = takenBlocks f g o (length xs) in
+    let all = blocksAfter (mapEntry image) (N f) (A f) g new in
+    let enough = taken-are-free f g o (length xs) (omega (arith, acc .facts .layout .large)) (may .room) in
     let count = named-count image acc name found fork in
     let most : length all ≤ length old + new = rw (length-append, length-take) (omega arith) in
     let w : InMap (N f) all = in-both (N f) old (take new (freeBlocks (mapEntry image) (N f))) (named-blocks image acc name found fork)

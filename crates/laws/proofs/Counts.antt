@@ -1,15 +1,17 @@
--- The counts of a write whose bytes come in two parts: all that the law for two parts asks of the logical length, of the blocks needed, by
--- which 17 is decided, and of the blocks taken.
-use Prim.Native.Nat.{ℕ, _+_, _-_, _≤_, _<_, max}
-use mathlib.Core.Path.{_≡_, sym, ap, subst, _∙_}
-use mathlib.Core.List.{List, _++_}
+-- The counts of a write: the logical length, the blocks needed, by which 17 is decided, and the blocks taken. Those taken are free and hold
+-- the bytes. Then all that the law for two parts asks of these counts.
+use Prim.Native.Nat.{ℕ, _+_, _-_, _*_, _/_, _%_, _≤_, _<_, max}
+use mathlib.Core.Path.{_≡_, refl, ap, ap₂, _∙_}
 use native.Mathlib.Omega.{arith}
-use lib.ListN.{length, length-append}
-use Rattle.model.specs.Directory.{forkBlocks}
-use Rattle.model.specs.Calls.{fewest, grown, needed}
+use native.Mathlib.Decide.{ℕ-discrete, decLe}
+use native.Mathlib.Nat.{mul-le-mul-right, div-add-mod', le-div-iff-mul-le}
+use borrow.Author.Tests.{eq-eqb, ne-eqb, le-leb, lt-leb}
+use Rattle.model.specs.Facts.{A, clump, freeCount}
+use Rattle.model.specs.Directory.{blockCount}
+use Rattle.model.specs.Calls.{fewest, grown, needed, neededBlocks, rounded, taken, takenBlocks}
+use Rattle.model.specs.declared.VolumeFacts.{VolumeFacts}
 use Rattle.model.specs.declared.ForkFacts.{ForkFacts}
 use Rattle.laws.proofs.Content.{fewest-holds, fewest-least}
-use Rattle.laws.proofs.MapSteps.{forkWith, sizeAfter, newCount}
 
 -- ---- the logical length, l before a write of x bytes at o
 
@@ -38,26 +40,193 @@ module _ (a l o x y count : ℕ) where
   unfolding needed
   needed-then t = rw (grown-then l o x y) (omega arith)
 
--- ---- the blocks taken, which are those needed
+-- ---- the clump
 
-module _ (e : ℕ → ℕ) (a : ℕ) (g : ForkFacts) (o : ℕ) (xs ys : List ℕ) where
-  abbrev count : ℕ
-  count = length (forkBlocks e a g)
+module _ (f : VolumeFacts) where
+  pub clump-below : f .«clump_size» < A f → clump f ≡ 1
+  unfolding clump
+  clump-below h = rw (lt-leb (A f) (f .«clump_size») h)
 
-  pub size-then : (bs : List ℕ) → sizeAfter (forkWith a (sizeAfter g o xs) bs) (o + length xs) ys ≡ sizeAfter g o (xs ++ ys)
-  size-then bs = grown-then (g .logical) o (length xs) (length ys) ∙ ap (grown (g .logical) o) (sym (length-append xs ys))
+  pub clump-uneven : A f ≤ f .«clump_size» → (f .«clump_size» % A f ≡ 0 → ⊥) → clump f ≡ 1
+  unfolding clump
+  clump-uneven h n = rw (le-leb (A f) (f .«clump_size») h, ne-eqb (f .«clump_size» % A f) 0 n)
 
-  -- by the first part no more
-  pub taken-less : 0 < a → newCount e a g o xs ≤ newCount e a g o (xs ++ ys)
-  taken-less pos =
-      subst (λ (k : ℕ). newCount e a g o xs ≤ needed a (grown (g .logical) o k) count) (sym (length-append xs ys))
-      (needed-less a (g .logical) o (length xs) (length ys) count pos)
+  pub clump-counts : A f ≤ f .«clump_size» → f .«clump_size» % A f ≡ 0 → clump f ≡ f .«clump_size» / A f
+  unfolding clump
+  clump-counts h e = rw (le-leb (A f) (f .«clump_size») h, eq-eqb (f .«clump_size» % A f) 0 e)
 
-  -- by the second the others, where the first left the fork with the blocks bs
-  pub taken-then : (e′ : ℕ → ℕ) (bs : List ℕ)
-      → length (forkBlocks e′ a (forkWith a (sizeAfter g o xs) bs)) ≡ length (forkBlocks e a g) + newCount e a g o xs
-      → newCount e′ a (forkWith a (sizeAfter g o xs) bs) (o + length xs) ys ≡ newCount e a g o (xs ++ ys) - newCount e a g o xs
-  taken-then e′ bs h =
-      ap (needed a (sizeAfter (forkWith a (sizeAfter g o xs) bs) (o + length xs) ys)) h
-      ∙ needed-then a (g .logical) o (length xs) (length ys) count (newCount e a g o xs)
-      ∙ ap (λ (k : ℕ). needed a (grown (g .logical) o k) count - newCount e a g o xs) (sym (length-append xs ys))
+  pub clump-some : 0 < A f → 0 < clump f
+  clump-some pos =
+      elim (decLe (A f) (f .«clump_size»)) [
+        | no h ↦ omega (arith, clump-below (omega arith))
+        | yes h ↦ elim (ℕ-discrete (f .«clump_size» % A f) 0) [
+          | no n ↦ omega (arith, clump-uneven h n)
+          | yes e ↦ omega (arith, clump-counts h e, le-div-iff-mul-le {k = A f} {x = 1} {y = f .«clump_size»} pos .1 (omega arith))
+        ]
+      ]
+
+-- ---- the blocks taken, where a clump has c blocks, the fork has count of them and free blocks are free
+
+module _ (c : ℕ) (pos : 0 < c) where
+  pub rounded-holds : (q : ℕ) → q ≤ rounded c q
+  unfolding rounded
+  rounded-holds q = fewest-holds q c pos
+
+  -- by less than a clump
+  pub rounded-most : (q : ℕ) → rounded c q < q + c
+  unfolding rounded fewest
+  rounded-most q = omega (arith, div-add-mod' (q + (c - 1)) c)
+
+  -- what the whole clumps of p hold needs no more of them
+  rounded-least : (p q : ℕ) → q ≤ rounded c p → rounded c q ≤ rounded c p
+  unfolding rounded
+  rounded-least p q h = mul-le-mul-right {m = fewest q c} {n = fewest p c} c (fewest-least q c (fewest p c) pos h)
+
+  module _ (free count : ℕ) where
+    pub taken-none : taken c free count 0 ≡ 0
+    unfolding taken
+    taken-none = refl
+
+    pub taken-whole : (need : ℕ) → 0 < need → rounded c (count + need) - count ≤ free → taken c free count need ≡ rounded c (count + need) - count
+    unfolding taken
+    taken-whole need h k = rw (ne-eqb need 0 (λ e. omega arith), le-leb (rounded c (count + need) - count) free k)
+
+    pub taken-exact : (need : ℕ) → 0 < need → free < rounded c (count + need) - count → taken c free count need ≡ need
+    unfolding taken
+    taken-exact need h k = rw (ne-eqb need 0 (λ e. omega arith), lt-leb (rounded c (count + need) - count) free k)
+
+    -- none, or to whole clumps where enough are free, or just those needed
+    module _ (P : ℕ → Type 0) (need : ℕ) (none : need ≡ 0 → P 0)
+        (whole : 0 < need → rounded c (count + need) - count ≤ free → P (rounded c (count + need) - count))
+        (exact : 0 < need → free < rounded c (count + need) - count → P need) where
+      by-taken : P (taken c free count need)
+      by-taken =
+          elim (ℕ-discrete need 0) [
+            | yes e ↦ rw (ap (taken c free count) e ∙ taken-none) (none e)
+            | no n ↦ elim (decLe (rounded c (count + need) - count) free) [
+              | yes k ↦ rw (taken-whole need (omega arith) k) (whole (omega arith) k)
+              | no k ↦ rw (taken-exact need (omega arith) (omega arith)) (exact (omega arith) (omega arith))
+            ]
+          ]
+
+    -- no more than are free, and no fewer than are needed
+    taken-free : (need : ℕ) → need ≤ free → taken c free count need ≤ free
+    taken-free need h = by-taken (λ t. t ≤ free) need (λ e. omega arith) (λ n k. k) (λ n k. h)
+
+    taken-enough : (need : ℕ) → need ≤ taken c free count need
+    taken-enough need =
+        by-taken (λ t. need ≤ t) need (λ e. omega arith) (λ n k. omega (arith, rounded-holds (count + need))) (λ n k. omega arith)
+
+  -- a first part that needs p blocks, and a whole that needs q
+  module _ (free count p q : ℕ) (less : p ≤ q) (room : q ≤ free) where
+    -- the first takes no more than the whole, and the second then the others
+    abbrev Adds : ℕ → Type 0
+    Adds t = (t ≤ taken c free count q) × (taken c (free - t) (count + t) (q - t) ≡ taken c free count q - t)
+
+    -- the second part, where the first took t
+    module _ (t : ℕ) (some : t < q) where
+      whole-same : count + t + (q - t) ≡ count + q
+      whole-same = omega arith
+
+      rest-whole : t ≤ free → rounded c (count + q) - count ≤ free → taken c (free - t) (count + t) (q - t) ≡ rounded c (count + q) - (count + t)
+      rest-whole h k =
+          let e = ap (λ (n : ℕ). rounded c n - (count + t)) whole-same in
+          taken-whole (free - t) (count + t) (q - t) (omega arith) (omega arith) ∙ e
+
+      rest-exact : free < rounded c (count + q) - count → taken c (free - t) (count + t) (q - t) ≡ q - t
+      rest-exact k =
+          let e = ap (λ (n : ℕ). rounded c n - (count + t)) whole-same in
+          taken-exact (free - t) (count + t) (q - t) (omega arith) (omega arith)
+
+    first-none : p ≡ 0 → Adds 0
+    first-none h =
+        let e : count + 0 ≡ count = omega arith in
+        let k : free - 0 ≡ free = omega arith in
+        let n : q - 0 ≡ q = omega arith in
+        (omega arith, rw (e, k, n) (omega arith))
+
+    first-whole : 0 < p → rounded c (count + p) - count ≤ free → Adds (rounded c (count + p) - count)
+    first-whole h k =
+        let t = rounded c (count + p) - count in
+        let lp = rounded-holds (count + p) in
+        let lq = rounded-holds (count + q) in
+        elim (decLe q t) [
+          | yes i ↦
+              let m = rounded-least (count + p) (count + q) (omega arith) in
+              let n = rounded-least (count + q) (count + p) (omega arith) in
+              let w = taken-whole free count q (omega arith) (omega arith) in
+              let z : q - t ≡ 0 = omega arith in
+              (omega arith, ap (taken c (free - t) (count + t)) z ∙ taken-none (free - t) (count + t) ∙ omega arith)
+          | no i ↦ elim (decLe (rounded c (count + q) - count) free) [
+            | yes j ↦ let w = taken-whole free count q (omega arith) j in (omega arith, rest-whole t (omega arith) k j ∙ omega arith)
+            | no j ↦ let w = taken-exact free count q (omega arith) (omega arith) in (omega arith, rest-exact t (omega arith) (omega arith) ∙ omega arith)
+          ]
+        ]
+
+    first-exact : 0 < p → free < rounded c (count + p) - count → Adds p
+    first-exact h k =
+        let lq = rounded-holds (count + q) in
+        let m = rounded-least (count + q) (count + p) (omega arith) in
+        let w = taken-exact free count q (omega arith) (omega arith) in
+        elim (decLe q p) [
+          | yes i ↦
+              let z : q - p ≡ 0 = omega arith in
+              (omega arith, ap (taken c (free - p) (count + p)) z ∙ taken-none (free - p) (count + p) ∙ omega arith)
+          | no i ↦ (omega arith, rest-exact p (omega arith) (omega arith) ∙ omega arith)
+        ]
+
+    pub taken-then : (taken c free count p ≤ taken c free count q)
+        × (taken c (free - taken c free count p) (count + taken c free count p) (q - taken c free count p) ≡ taken c free count q - taken c free count p)
+    taken-then = by-taken free count Adds p first-none first-whole first-exact
+
+-- ---- of a write of n bytes at o in the fork g
+
+module _ (f : VolumeFacts) (g : ForkFacts) (o n : ℕ) (pos : 0 < A f) where
+  -- those taken are free where those needed are
+  pub taken-are-free : neededBlocks f g o n ≤ freeCount f → takenBlocks f g o n ≤ freeCount f
+  unfolding takenBlocks
+  taken-are-free = taken-free (clump f) (clump-some f pos) (freeCount f) (blockCount (A f) g) (neededBlocks f g o n)
+
+  -- with them the fork holds the bytes
+  pub taken-hold : grown (g .logical) o n ≤ (blockCount (A f) g + takenBlocks f g o n) * A f
+  unfolding takenBlocks neededBlocks needed
+  taken-hold =
+      let size = grown (g .logical) o n in
+      let has = blockCount (A f) g in
+      let enough = taken-enough (clump f) (clump-some f pos) (freeCount f) has (neededBlocks f g o n) in
+      omega (
+        arith,
+        fewest-holds size (A f) pos,
+        mul-le-mul-right {m = fewest size (A f)} {n = has + takenBlocks f g o n} (A f) (omega (arith, enough)),
+      )
+
+-- ---- of a write of x bytes at o in the fork g, and of y bytes behind them
+
+module _ (f : VolumeFacts) (g : ForkFacts) (o x y : ℕ) (pos : 0 < A f) (room : neededBlocks f g o (x + y) ≤ freeCount f) where
+  abbrev Then : Type 0
+  Then =
+      let t = takenBlocks f g o x in
+      (t ≤ takenBlocks f g o (x + y))
+      × (taken (clump f) (freeCount f - t) (blockCount (A f) g + t) (neededBlocks f g o (x + y) - t) ≡ takenBlocks f g o (x + y) - t)
+
+  both-taken : Then
+  unfolding takenBlocks neededBlocks
+  both-taken =
+      taken-then (clump f) (clump-some f pos) (freeCount f) (blockCount (A f) g) (neededBlocks f g o x) (neededBlocks f g o (x + y))
+      (needed-less (A f) (g .logical) o x y (blockCount (A f) g) pos) room
+
+  -- the first takes no more than both at once
+  pub first-less : takenBlocks f g o x ≤ takenBlocks f g o (x + y)
+  first-less = both-taken .0
+
+  -- the second takes the others, where the first left the fork h and so many blocks free
+  pub second-others : (h : ForkFacts) → h .logical ≡ grown (g .logical) o x → blockCount (A f) h ≡ blockCount (A f) g + takenBlocks f g o x
+      → taken (clump f) (freeCount f - takenBlocks f g o x) (blockCount (A f) h) (neededBlocks f h (o + x) y)
+      ≡ takenBlocks f g o (x + y) - takenBlocks f g o x
+  unfolding neededBlocks
+  second-others h l k =
+      let t = takenBlocks f g o x in
+      let has = blockCount (A f) g in
+      ap₂ (λ (n m : ℕ). taken (clump f) (freeCount f - t) n (needed (A f) (grown m (o + x) y) n)) k l
+      ∙ ap (taken (clump f) (freeCount f - t) (has + t)) (needed-then (A f) (g .logical) o x y has t)
+      ∙ both-taken .1

@@ -13,7 +13,7 @@ use Rattle.model.specs.Facts.{factsOf, dirStart, dirLength, N, A, S, nextNumber
 use Rattle.model.specs.Map.{mapEntry, putChain, putFree}
 use Rattle.model.specs.Directory.{padded, directoryBlocks, listing, directory, numberIn, nameIn, inUse, forkOf, forkBlocks, named}
 use Rattle.model.specs.Check.{goodEntry, sameNames, fires6, fires7}
-use Rattle.model.specs.Calls.{hasRoom, placed, removed, onNamed, rewritten, withDirectory, withFiles, withNext, withFree, withFork, fewest}
+use Rattle.model.specs.Calls.{hasRoom, placed, removed, onNamed, rewritten, withDirectory, withFiles, withNext, withFree, withFork, fewest, takenBlocks}
 use Rattle.model.specs.Calls.{newEntry, created, written, shortened, deleted}
 use Rattle.model.specs.Bytes.{Within}
 use Rattle.model.specs.declared.VolumeFacts.{VolumeFacts}
@@ -23,7 +23,7 @@ use Rattle.model.specs.declared.Fork.the-variants.{Data, Resource}
 use Rattle.model.proofs.Lists.{and-true}
 use Rattle.model.proofs.Check.{PassesAll, sound-facts}
 use Rattle.laws.proofs.Reorder.{Alone}
-use Rattle.laws.proofs.MapSteps.{sizeAfter, newCount, blocksAfter, afterWrite}
+use Rattle.laws.proofs.MapSteps.{sizeAfter, blocksAfter, afterWrite}
 use Rattle.laws.proofs.Block.{sound, Keeps, keeps-sized}
 use Rattle.laws.proofs.Entry.{new-length, new-sound, new-number, new-name, fork-keeps}
 use Rattle.laws.proofs.Blocks.{Cleans, clean-whole, Stays, Inserted, inserted-reordered, placed-stays, placed-inserted, removed-stays, removed-listing}
@@ -190,12 +190,12 @@ module _ (image : List ℕ) (r : ReadableDirectory image) where
 abbrev pub deleteFreed : List ℕ → List ℕ → List ℕ
 deleteFreed image e = forkBlocks (mapEntry image) (A (factsOf image)) (forkOf Data e) ++ forkBlocks (mapEntry image) (A (factsOf image)) (forkOf Resource e)
 
--- the number of new blocks of a write, and all blocks of fork g then
+-- the number of blocks that a write takes, and all blocks of fork g then
 abbrev pub writeNew : List ℕ → ℕ → List ℕ → ForkFacts → ℕ
-writeNew image o xs g = newCount (mapEntry image) (A (factsOf image)) g o xs
+writeNew image o xs g = takenBlocks (factsOf image) g o (length xs)
 
 abbrev pub writeAll : List ℕ → ℕ → List ℕ → ForkFacts → List ℕ
-writeAll image o xs g = blocksAfter (mapEntry image) (N (factsOf image)) (A (factsOf image)) g o xs
+writeAll image o xs g = blocksAfter (mapEntry image) (N (factsOf image)) (A (factsOf image)) g (writeNew image o xs g)
 
 -- the blocks of fork g that a cut to n keeps and frees
 abbrev pub cutKept : List ℕ → ℕ → ForkFacts → List ℕ
@@ -206,7 +206,7 @@ cutFreed image n g = drop (fewest n (A (factsOf image))) (forkBlocks (mapEntry i
 
 -- the images before the directory's stores
 abbrev pub writeBase : List ℕ → ℕ → List ℕ → ForkFacts → List ℕ
-writeBase image o xs g = afterWrite (S (factsOf image)) (A (factsOf image)) (N (factsOf image)) image g o xs
+writeBase image o xs g = afterWrite (S (factsOf image)) (A (factsOf image)) (N (factsOf image)) image g (writeNew image o xs g) o xs
 
 abbrev pub cutBase : List ℕ → ℕ → ForkFacts → List ℕ
 cutBase image n g = putFree (putChain image (cutKept image n g)) (cutFreed image n g)

@@ -6,6 +6,7 @@ pub mod Free
 pub mod Entries
 pub mod Joins
 pub mod Content
+pub mod Counts
 pub mod MapChecks
 pub mod Alike
 pub mod Octets
@@ -31,7 +32,6 @@ pub mod Creates
 pub mod Renames
 pub mod BytesKept
 pub mod Twice
-pub mod Counts
 pub mod Stored
 pub mod WriteRefusals
 pub mod NextWrite

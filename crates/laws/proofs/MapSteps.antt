@@ -15,7 +15,7 @@ use Rattle.model.specs.Facts.{N, A, S}
 use Rattle.model.specs.Map.{mapEntry, chainBlocks, freeBlocks, putChain, putFree}
 use Rattle.model.specs.Directory.{blockCount, forkBlocks}
 use Rattle.model.specs.Check.{SoundFacts}
-use Rattle.model.specs.Calls.{fewest, grown, needed, bytesOf, forkBytes, putContent}
+use Rattle.model.specs.Calls.{fewest, grown, bytesOf, forkBytes, putContent}
 use Rattle.model.specs.Bytes.{overwritten, Within}
 use Rattle.model.specs.declared.VolumeFacts.{VolumeFacts}
 use Rattle.model.specs.declared.ForkFacts.{ForkFacts}
@@ -264,19 +264,15 @@ around s a n free free′ l l″ p m m′ t x pos h k c =
 
 -- ---- the calls
 
--- write of xs at o to the fork g: its logical length then, the new blocks that it takes, which are those needed, its blocks then, and the
--- map and the blocks then
+-- write of xs at o to the fork g that takes so many new blocks: its logical length then, its blocks then, and the map and the blocks then
 abbrev pub sizeAfter : ForkFacts → ℕ → List ℕ → ℕ
 sizeAfter g o xs = grown (g .logical) o (length xs)
 
-abbrev pub newCount : (ℕ → ℕ) → ℕ → ForkFacts → ℕ → List ℕ → ℕ
-newCount e a g o xs = needed a (sizeAfter g o xs) (length (forkBlocks e a g))
+abbrev pub blocksAfter : (ℕ → ℕ) → ℕ → ℕ → ForkFacts → ℕ → List ℕ
+blocksAfter e n a g new = forkBlocks e a g ++ take new (freeBlocks e n)
 
-abbrev pub blocksAfter : (ℕ → ℕ) → ℕ → ℕ → ForkFacts → ℕ → List ℕ → List ℕ
-blocksAfter e n a g o xs = forkBlocks e a g ++ take (newCount e a g o xs) (freeBlocks e n)
-
-abbrev pub afterWrite : LogicalBlock → ℕ → ℕ → List ℕ → ForkFacts → ℕ → List ℕ → List ℕ
-afterWrite s a n l g o xs = putContent s a (putChain l (blocksAfter (mapEntry l) n a g o xs)) (blocksAfter (mapEntry l) n a g o xs) o xs
+abbrev pub afterWrite : LogicalBlock → ℕ → ℕ → List ℕ → ForkFacts → ℕ → ℕ → List ℕ → List ℕ
+afterWrite s a n l g new o xs = putContent s a (putChain l (blocksAfter (mapEntry l) n a g new)) (blocksAfter (mapEntry l) n a g new) o xs
 
 -- cut of the fork g to m bytes: the blocks that it keeps, those that become free, and the map then
 abbrev pub keptBlocks : (ℕ → ℕ) → ℕ → ForkFacts → ℕ → List ℕ
@@ -295,10 +291,6 @@ bothBlocks e a g r = forkBlocks e a g ++ forkBlocks e a r
 -- the forks of a new file
 abbrev pub blankFork : ForkFacts
 blankFork = record { start = record { 0 = 0 }; logical = 0; physical = 0 }
-
--- the new blocks, from the count that the fields tell
-pub new-count : (e : ℕ → ℕ) (a : ℕ) (g : ForkFacts) (o : ℕ) (xs : List ℕ) → newCount e a g o xs ≡ needed a (sizeAfter g o xs) (blockCount a g)
-new-count e a g o xs = ap (needed a (sizeAfter g o xs)) (length-forkBlocks e a g)
 
 module _ (s : LogicalBlock) (a n free : ℕ) (l : List ℕ) (ar : Area s a n l) where
   module _ (p t : List ForkFacts) (g : ForkFacts) (h : MapPasses (mapEntry l) n a free (p ++ (g ∷ t))) where
@@ -325,36 +317,28 @@ module _ (s : LogicalBlock) (a n free : ℕ) (l : List ℕ) (ar : Area s a n l) 
     length-forkBytes = length-take-le (g .logical) (bytesOf s a l old)
         (omega (arith, length-bytes s a l old (inside s a n l ar l old refl old-in-map), old-fields .logical))
 
-    module _ (o : ℕ) (xs : List ℕ) (at : o ≤ g .logical) (enough : newCount (mapEntry l) a g o xs ≤ free) where
+    -- write of xs at o that takes so many new blocks: these are free, and with them the fork holds its bytes
+    module _ (many o : ℕ) (xs : List ℕ) (at : o ≤ g .logical) (enough : many ≤ free) (large : sizeAfter g o xs ≤ (blockCount a g + many) * a) where
       abbrev size : ℕ
       size = sizeAfter g o xs
 
-      abbrev need : ℕ
-      need = newCount (mapEntry l) a g o xs
-
       abbrev new : List ℕ
-      new = take need (freeBlocks (mapEntry l) n)
+      new = take many (freeBlocks (mapEntry l) n)
 
       abbrev image : List ℕ
       image = putContent s a (putChain l (old ++ new)) (old ++ new) o xs
 
-      length-new : length new ≡ need
-      length-new = length-take-le need (freeBlocks (mapEntry l) n) (omega (arith, free-length (mapEntry l) n a free (p ++ (g ∷ t)) h))
+      length-new : length new ≡ many
+      length-new = length-take-le many (freeBlocks (mapEntry l) n) (omega (arith, free-length (mapEntry l) n a free (p ++ (g ∷ t)) h))
 
-      pub write-length : length (blocksAfter (mapEntry l) n a g o xs) ≡ length (forkBlocks (mapEntry l) a g) + newCount (mapEntry l) a g o xs
-      write-length = omega (arith, length-append old new, length-new)
+      write-length : length (blocksAfter (mapEntry l) n a g many) ≡ blockCount a g + many
+      write-length = omega (arith, length-append old new, length-new, length-forkBlocks (mapEntry l) a g)
 
-      pub write-holds : sizeAfter g o xs ≤ length (blocksAfter (mapEntry l) n a g o xs) * a
-      unfolding needed
-      write-holds =
-          omega (
-            arith,
-            fewest-holds size a (ar .some),
-            mul-le-mul-right {m = fewest size a} {n = length (old ++ new)} a (omega (arith, write-length)),
-          )
+      pub write-holds : sizeAfter g o xs ≤ length (blocksAfter (mapEntry l) n a g many) * a
+      write-holds = rw write-length large
 
       new-free : New n (ar .few) (mapEntry l) new
-      new-free = lowest-free n (ar .few) (mapEntry l) need
+      new-free = lowest-free n (ar .few) (mapEntry l) many
 
       fits : g .logical ≤ length old * a
       fits = old-fields .logical
@@ -367,39 +351,39 @@ module _ (s : LogicalBlock) (a n free : ℕ) (l : List ℕ) (ar : Area s a n l) 
       fields = record { start = refl; physical = refl; logical = write-holds }
 
       write-lists : (l″ : List ℕ) → Alike s l″ image
-          → Lists (mapEntry l″) n a (free - need) (p ++ (forkWith a size (old ++ new) ∷ t)) (lists (mapEntry l) a p ++ ((old ++ new) ∷ lists (mapEntry l) a t))
+          → Lists (mapEntry l″) n a (free - many) (p ++ (forkWith a size (old ++ new) ∷ t)) (lists (mapEntry l) a p ++ ((old ++ new) ∷ lists (mapEntry l) a t))
       unfolding Fit flat
       write-lists l″ k =
-          replaced (mapEntry l) (mapEntry l″) n a free (free - need) p (g ∷ []) (forkWith a size (old ++ new) ∷ []) t ((old ++ new) ∷ []) h (fields, tt)
-          (omega (arith, length-append (old ++ new) [], length-append old [], write-length))
+          replaced (mapEntry l) (mapEntry l″) n a free (free - many) p (g ∷ []) (forkWith a size (old ++ new) ∷ []) t ((old ++ new) ∷ []) h (fields, tt)
+          (omega (arith, length-append (old ++ new) [], length-append old [], length-append old new, length-new))
           (alike-sound s n l″ image _ (ar .few) k
           (stored-sound s a n l ar (lists (mapEntry l) a p) (lists (mapEntry l) a t) old new old-sound new-free (g .logical) o xs fits at room))
 
       -- ---- write
 
-      pub write-frame : Framed s a (blocksAfter (mapEntry l) n a g o xs) l (afterWrite s a n l g o xs)
+      pub write-frame : Framed s a (blocksAfter (mapEntry l) n a g many) l (afterWrite s a n l g many o xs)
       write-frame = stored-frame s a n l ar (lists (mapEntry l) a p) (lists (mapEntry l) a t) old new old-sound new-free (g .logical) o xs fits at room
 
-      pub write-once : Once (blocksAfter (mapEntry l) n a g o xs)
+      pub write-once : Once (blocksAfter (mapEntry l) n a g many)
       write-once = once s a n l ar (lists (mapEntry l) a p) (lists (mapEntry l) a t) old new old-sound new-free (g .logical) o xs fits at room
 
-      pub write-inside : Inside s a l (blocksAfter (mapEntry l) n a g o xs)
+      pub write-inside : Inside s a l (blocksAfter (mapEntry l) n a g many)
       write-inside = inside s a n l ar l (old ++ new) refl
           (within s a n l ar (lists (mapEntry l) a p) (lists (mapEntry l) a t) old new old-sound new-free (g .logical) o xs fits at room)
 
-      pub write-count : blockCount a (forkWith a (sizeAfter g o xs) (blocksAfter (mapEntry l) n a g o xs)) ≡ blockCount a g + newCount (mapEntry l) a g o xs
-      write-count = count-with a size (old ++ new) (ar .some) ∙ write-length ∙ ap (λ k. k + need) (length-forkBlocks (mapEntry l) a g)
+      pub write-count : blockCount a (forkWith a (sizeAfter g o xs) (blocksAfter (mapEntry l) n a g many)) ≡ blockCount a g + many
+      write-count = count-with a size (old ++ new) (ar .some) ∙ write-length
 
-      pub write-bytes : Bytes l → Bytes xs → Bytes (afterWrite s a n l g o xs)
+      pub write-bytes : Bytes l → Bytes xs → Bytes (afterWrite s a n l g many o xs)
       write-bytes b c =
           let w = within s a n l ar (lists (mapEntry l) a p) (lists (mapEntry l) a t) old new old-sound new-free (g .logical) o xs fits at room in
           bytes-putContent s a (putChain l (old ++ new)) (old ++ new) o xs (bytes-putChain n (ar .few) l (old ++ new) w b) c
 
-      module _ (l″ : List ℕ) (k : Alike s l″ (afterWrite s a n l g o xs)) where
-        pub write-changed : ForksChanged s a n (free - newCount (mapEntry l) a g o xs) l l″ p
-            (forkWith a (sizeAfter g o xs) (blocksAfter (mapEntry l) n a g o xs) ∷ []) t
+      module _ (l″ : List ℕ) (k : Alike s l″ (afterWrite s a n l g many o xs)) where
+        pub write-changed : ForksChanged s a n (free - many) l l″ p
+            (forkWith a (sizeAfter g o xs) (blocksAfter (mapEntry l) n a g many) ∷ []) t
         write-changed =
-            around s a n free (free - need) l l″ p (g ∷ []) (forkWith a size (old ++ new) ∷ []) t ((old ++ new) ∷ []) (ar .some) h (write-lists l″ k)
+            around s a n free (free - many) l l″ p (g ∷ []) (forkWith a size (old ++ new) ∷ []) t ((old ++ new) ∷ []) (ar .some) h (write-lists l″ k)
             λ os c. alike-bytes s a l″ image os k
             ∙ stored-others s a n l ar (lists (mapEntry l) a p) (lists (mapEntry l) a t) old new old-sound new-free (g .logical) o xs fits at room os c
 
@@ -408,7 +392,7 @@ module _ (s : LogicalBlock) (a n free : ℕ) (l : List ℕ) (ar : Area s a n l) 
         after-linked =
             each-right (Linked (mapEntry l″) n) (lists (mapEntry l) a p) ((old ++ new) ∷ lists (mapEntry l) a t) (write-lists l″ k .sound .linked) .0
 
-        pub write-stores : BlocksStored s a n l l″ (blocksAfter (mapEntry l) n a g o xs) o xs
+        pub write-stores : BlocksStored s a n l l″ (blocksAfter (mapEntry l) n a g many) o xs
         write-stores =
             let e = stored-entries s a n l ar (lists (mapEntry l) a p) (lists (mapEntry l) a t) old new old-sound new-free (g .logical) o xs fits at room in
             let c = stored-content s a n l ar (lists (mapEntry l) a p) (lists (mapEntry l) a t) old new old-sound new-free (g .logical) o xs fits at room in
@@ -420,11 +404,11 @@ module _ (s : LogicalBlock) (a n free : ℕ) (l : List ℕ) (ar : Area s a n l) 
               others = λ x low z. ap (take a) (same-drop (512 * s .0) (byteOf s a x) l″ image (omega arith) (k .blocks)) ∙ b x low z;
             }
 
-        pub write-blocks : forkBlocks (mapEntry l″) a (forkWith a (sizeAfter g o xs) (blocksAfter (mapEntry l) n a g o xs)) ≡ blocksAfter
-            (mapEntry l) n a g o xs
+        pub write-blocks : forkBlocks (mapEntry l″) a (forkWith a (sizeAfter g o xs) (blocksAfter (mapEntry l) n a g many)) ≡ blocksAfter
+            (mapEntry l) n a g many
         write-blocks = fields-blocks (mapEntry l″) n a (forkWith a size (old ++ new)) (old ++ new) (ar .some) after-linked fields
 
-        pub write-own : forkBytes s a l″ (forkWith a (sizeAfter g o xs) (blocksAfter (mapEntry l) n a g o xs)) ≡ overwritten (forkBytes s a l g) o xs
+        pub write-own : forkBytes s a l″ (forkWith a (sizeAfter g o xs) (blocksAfter (mapEntry l) n a g many)) ≡ overwritten (forkBytes s a l g) o xs
         write-own =
             reads-as s a n l″ (forkWith a size (old ++ new)) (old ++ new) (ar .some) after-linked fields
             ∙ ap (take size) (alike-bytes s a l″ image (old ++ new) k)

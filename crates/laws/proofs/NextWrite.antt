@@ -15,7 +15,7 @@ use Rattle.model.specs.Facts.{factsOf, dirStart, dirLength, N, A, S, nextNumber
 use Rattle.model.specs.Map.{mapEntry, freeBlocks}
 use Rattle.model.specs.Directory.{directory, directoryBlocks, forkOf, forkBlocks, named, flagsLock, blockCount}
 use Rattle.model.specs.Check.{Accepted}
-use Rattle.model.specs.Calls.{grown, needed, entryNamed, onNamed, rewritten, withFork, withDirectory, withFree, written}
+use Rattle.model.specs.Calls.{grown, needed, takenBlocks, entryNamed, onNamed, rewritten, withFork, withDirectory, withFree, written}
 use Rattle.model.specs.declared.VolumeFacts.{VolumeFacts}
 use Rattle.model.specs.declared.ForkFacts.{ForkFacts}
 use Rattle.model.specs.declared.Fork.{Fork}
@@ -24,7 +24,7 @@ use Rattle.laws.proofs.Stores.{sets-before, sets-behind, sets-in, paste
 use Rattle.laws.proofs.Sound.{linked-used}
 use Rattle.laws.proofs.Free.{free-dropped}
 use Rattle.laws.proofs.Content.{same-byte}
-use Rattle.laws.proofs.MapSteps.{forkWith, sizeAfter, newCount}
+use Rattle.laws.proofs.MapSteps.{forkWith, sizeAfter}
 use Rattle.laws.proofs.Reorder.{any-map}
 use Rattle.laws.proofs.Entry.{fork-keeps, fork-named, fork-fields, fork-flags}
 use Rattle.laws.proofs.Block.{on-alike, keeps-sized}
@@ -51,12 +51,12 @@ module _ (image : List ℕ) (acc : Accepted image) (name : List ℕ) (fork : For
   abbrev g : ForkFacts
   g = its image acc name fork o xs changed m
 
-  -- the logical length, the new blocks, all blocks and the free count
+  -- the logical length, the number of blocks taken, all blocks and the free count
   abbrev size : ℕ
   size = sizeAfter g o xs
 
   abbrev count : ℕ
-  count = newCount (mapEntry image) (A f) g o xs
+  count = takenBlocks f g o (length xs)
 
   abbrev after : List ℕ
   after = all image acc name fork o xs changed m

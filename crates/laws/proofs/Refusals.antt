@@ -165,7 +165,7 @@ pub record MayChangeFile (image name : List ℕ) : Type 0 where
   pub exists : any (named name) (directory image) ≡ true
   pub fileUnlocked : flagsLock (byte (entryNamed name image) 0) ≡ false
 
--- the new blocks that a write of count bytes needs, as its refusal 17 asks: `newBlocks`, written out
+-- the new blocks that a write of count bytes needs, as its refusal 17 asks: `neededBlocks`, written out
 abbrev pub needs : List ℕ → List ℕ → Fork → ℕ → ℕ → ℕ
 needs image name fork offset count =
     let a = A (factsOf image) in

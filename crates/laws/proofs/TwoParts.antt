@@ -1,7 +1,7 @@
 -- The law for two parts: where a write of xs ++ ys is not refused, the write of xs is not, nor the write of ys behind it, and these two
 -- leave the image that the single write leaves.
 use Prim.Native.Nat.{ℕ, _+_, _-_, _*_, _≤_}
-use mathlib.Core.Path.{_≡_, sym, ap, ap₂, subst, _∙_}
+use mathlib.Core.Path.{_≡_, refl, sym, ap, ap₂, subst, _∙_}
 use mathlib.Core.Bool.{true}
 use mathlib.Core.List.{List, _++_, append-assoc}
 use native.Mathlib.Omega.{arith}
@@ -9,29 +9,29 @@ use lib.ListN.{length, take, drop, length-append}
 use lib.Seq.{take-add}
 use Rattle.model.specs.Lists.{any, flat}
 use Rattle.model.specs.Bytes.{Bytes}
-use Rattle.model.specs.Facts.{factsOf, dirStart, dirLength, N, A, S, nextNumber, freeCount, withCounts}
+use Rattle.model.specs.Facts.{factsOf, dirStart, dirLength, N, A, S, clump, nextNumber, freeCount, withCounts}
 use Rattle.model.specs.Map.{mapEntry, freeBlocks}
 use Rattle.model.specs.Directory.{directory, directoryBlocks, forkOf, forkBlocks, named, blockCount}
 use Rattle.model.specs.Check.{Accepted}
-use Rattle.model.specs.Calls.{entryNamed, rewritten, withFork}
+use Rattle.model.specs.Calls.{grown, neededBlocks, takenBlocks, entryNamed, rewritten, withFork}
 use Rattle.model.specs.declared.LogicalBlock.{LogicalBlock}
 use Rattle.model.specs.declared.VolumeFacts.{VolumeFacts}
 use Rattle.model.specs.declared.ForkFacts.{ForkFacts}
 use Rattle.model.specs.declared.Fork.{Fork}
 use Rattle.laws.proofs.Joins.{Once}
 use Rattle.laws.proofs.Content.{Inside}
-use Rattle.laws.proofs.MapSteps.{forkWith, sizeAfter, newCount, blocksAfter}
+use Rattle.laws.proofs.MapSteps.{forkWith, sizeAfter, blocksAfter}
 use Rattle.laws.proofs.Entry.{fork-keeps}
 use Rattle.laws.proofs.DirectorySteps.{clean-now}
 use Rattle.laws.proofs.Refusals.{MayWrite, needs}
 use Rattle.laws.proofs.Acceptance.{area, readable-of}
 use Rattle.laws.proofs.TheEntry.{the-fork}
-use Rattle.laws.proofs.Writes.{its, write-accepted, now-blocks, now-once, now-inside, now-holds, now-length}
+use Rattle.laws.proofs.Writes.{its, write-accepted, now-many, now-blocks, now-once, now-inside, now-holds}
 use Rattle.laws.proofs.Writes.{left as leftBy}
 use Rattle.laws.proofs.Twice.{fork-twice, rewritten-twice}
 use Rattle.laws.proofs.Stored.{Stored, stored-one, stored-then}
 use Rattle.laws.proofs.NextWrite.{write-stored, left-facts, left-fork, left-file, left-free, left-directory, left-within, left-count, left-needs}
-use Rattle.laws.proofs.Counts.{grown-end, needed-less, size-then, taken-less, taken-then}
+use Rattle.laws.proofs.Counts.{grown-end, grown-then, needed-less, first-less, second-others}
 
 -- the same places under other words
 cast : (s : LogicalBlock) (a n d k : ℕ) (image left bs bs′ : List ℕ) (o : ℕ) (xs rows rows′ : List ℕ) (free free′ : ℕ) → bs ≡ bs′ → rows ≡ rows′ → free ≡ free′
@@ -97,24 +97,24 @@ module _ (image : List ℕ) (acc : Accepted image) (name : List ℕ) (fork : For
   abbrev left : List ℕ
   left = leftBy image acc name fork o (xs ++ ys) changed m
 
-  -- lengths, new blocks and blocks of the first write and of the whole
+  -- lengths, number of blocks taken and blocks of the first write and of the whole
   abbrev size₁ : ℕ
   size₁ = sizeAfter g o xs
 
   abbrev count₁ : ℕ
-  count₁ = newCount (mapEntry image) (A f) g o xs
+  count₁ = takenBlocks f g o (length xs)
 
   abbrev after₁ : List ℕ
-  after₁ = blocksAfter (mapEntry image) (N f) (A f) g o xs
+  after₁ = blocksAfter (mapEntry image) (N f) (A f) g count₁
 
   abbrev size : ℕ
   size = sizeAfter g o (xs ++ ys)
 
   abbrev count : ℕ
-  count = newCount (mapEntry image) (A f) g o (xs ++ ys)
+  count = takenBlocks f g o (length (xs ++ ys))
 
   abbrev after : List ℕ
-  after = blocksAfter (mapEntry image) (N f) (A f) g o (xs ++ ys)
+  after = blocksAfter (mapEntry image) (N f) (A f) g count
 
   abbrev rows : List (List ℕ)
   rows = rewritten name (withFork fork (A f) size after changed) (directoryBlocks f image)
@@ -134,7 +134,7 @@ module _ (image : List ℕ) (acc : Accepted image) (name : List ℕ) (fork : For
 
   -- what the second write takes for its places, given the facts and the fork that it finds
   abbrev blocksSeen : VolumeFacts → ForkFacts → List ℕ
-  blocksSeen v h = blocksAfter (mapEntry mid) (N v) (A v) h q ys
+  blocksSeen v h = blocksAfter (mapEntry mid) (N v) (A v) h (takenBlocks v h q (length ys))
 
   abbrev rowsSeen : VolumeFacts → ForkFacts → List ℕ
   rowsSeen v h = flat (rewritten name (withFork fork (A v) (sizeAfter h q ys) (blocksSeen v h) changed) (directoryBlocks v mid))
@@ -142,7 +142,7 @@ module _ (image : List ℕ) (acc : Accepted image) (name : List ℕ) (fork : For
   abbrev Seen : VolumeFacts → ForkFacts → Type 0
   Seen v h =
       Stored (S v) (A v) (N v) (512 * dirStart v .0) (512 * dirLength v) mid left₂ (blocksSeen v h) q ys (rowsSeen v h)
-      (freeCount v - newCount (mapEntry mid) (A v) h q ys)
+      (freeCount v - takenBlocks v h q (length ys))
 
   seen : Seen now fork₁
   seen =
@@ -150,20 +150,29 @@ module _ (image : List ℕ) (acc : Accepted image) (name : List ℕ) (fork : For
       (subst (λ (v : VolumeFacts). Seen v g₂) (left-facts image acc name fork o xs changed first-may)
       (write-stored mid mid-accepted name fork q ys changed second-may))
 
-  -- it finds the logical length, the new blocks, the blocks, the directory and the free count that make the whole's
+  -- it finds the logical length, the number of blocks to take, the blocks, the directory and the free count that make the whole's
   size-same : sizeAfter fork₁ q ys ≡ size
-  size-same = size-then (mapEntry image) (A f) g o xs ys after₁
+  size-same = grown-then (g .logical) o (length xs) (length ys) ∙ ap (grown (g .logical) o) (sym (length-append xs ys))
 
-  count-same : newCount (mapEntry mid) (A f) fork₁ q ys ≡ count - count₁
+  -- the room of the whole, said of the fork
+  fork-room : neededBlocks f g o (length xs + length ys) ≤ freeCount f
+  unfolding neededBlocks
+  fork-room =
+      subst (λ (h : ForkFacts). neededBlocks f h o (length xs + length ys) ≤ freeCount f) (the-fork image acc name (m .file .exists) fork) whole-room
+
+  count-same : takenBlocks now fork₁ q (length ys) ≡ count - count₁
+  unfolding takenBlocks neededBlocks withCounts clump
   count-same =
-      taken-then (mapEntry image) (A f) g o xs ys (mapEntry mid) after₁
-      (ap length (now-blocks image acc name fork o xs changed first-may) ∙ now-length image acc name fork o xs changed first-may)
+      second-others f g o (length xs) (length ys) (area image acc .some) fork-room fork₁ refl (now-many image acc name fork o xs changed first-may)
+      ∙ ap (λ (k : ℕ). takenBlocks f g o k - count₁) (sym (length-append xs ys))
 
   count-less : count₁ ≤ count
-  count-less = taken-less (mapEntry image) (A f) g o xs ys (area image acc .some)
+  count-less =
+      subst (λ (k : ℕ). count₁ ≤ takenBlocks f g o k) (sym (length-append xs ys))
+      (first-less f g o (length xs) (length ys) (area image acc .some) fork-room)
 
   abbrev after₂ : List ℕ
-  after₂ = blocksAfter (mapEntry mid) (N f) (A f) fork₁ q ys
+  after₂ = blocksAfter (mapEntry mid) (N f) (A f) fork₁ (takenBlocks now fork₁ q (length ys))
 
   blocks-second : after₂ ≡ after₁ ++ rest
   blocks-second =
@@ -188,7 +197,7 @@ module _ (image : List ℕ) (acc : Accepted image) (name : List ℕ) (fork : For
       ∙ ap flat (rewritten-twice name h₁ h (fork-keeps fork (A f) size₁ after₁ changed) (fork-twice fork (A f) size₁ size after₁ after changed changed)
       (directoryBlocks f image) (clean-now image (readable-of image acc)))
 
-  free-same : freeCount f - count₁ - newCount (mapEntry mid) (A f) fork₁ q ys ≡ freeCount f - count
+  free-same : freeCount f - count₁ - takenBlocks now fork₁ q (length ys) ≡ freeCount f - count
   free-same = omega (arith, count-same, count-less)
 
   second : Stored (S f) (A f) (N f) (512 * dirStart f .0) (512 * dirLength f) mid left₂ (after₁ ++ rest) q ys (flat rows) (freeCount f - count)

@@ -8,7 +8,7 @@ use lib.Seq.{sets, paste}
 use lib.Dec.{eqb, leb, ltb}
 use Rattle.model.specs.Lists.{any, keep, first, placeOf, flat, firstOr0}
 use Rattle.model.specs.Bytes.{byte, bytes16, bytes32, zeros, part, Bytes}
-use Rattle.model.specs.Facts.{factsOf, dirStart, dirLength, N, A, S, nextNumber, freeCount, isLocked, blockByte, noFacts}
+use Rattle.model.specs.Facts.{factsOf, dirStart, dirLength, N, A, S, clump, nextNumber, freeCount, isLocked, blockByte, noFacts}
 use Rattle.model.specs.Map.{mapEntry, freeBlocks, putChain, putFree}
 use Rattle.model.specs.Directory.{sizeFor, entries, readEnd, directoryBlocks, directory, forkPlace, forkOf, entryIn, noEntry, flagsLock, blockCount}
 use Rattle.model.specs.Directory.{forkBlocks, named}
@@ -70,13 +70,28 @@ fewest n a = (n + (a - 1)) / a
 unfoldable pub grown : ℕ → ℕ → ℕ → ℕ
 grown logical o n = max logical (o + n)
 
--- If that needs more blocks than the fork has, the missing ones are taken: the new blocks needed.
+-- If that needs more blocks than the fork has, these are missing: the new blocks needed.
 unfoldable pub needed : ℕ → ℕ → ℕ → ℕ
 needed a logical blocks = fewest logical a - blocks
 
--- those of a write of n bytes at o in the fork g
-unfoldable pub newBlocks : VolumeFacts → ForkFacts → ℕ → ℕ → ℕ
-newBlocks f g o n = needed (A f) (grown (g .logical) o n) (blockCount (A f) g)
+-- those that a write of n bytes at o in the fork g needs
+unfoldable pub neededBlocks : VolumeFacts → ForkFacts → ℕ → ℕ → ℕ
+neededBlocks f g o n = needed (A f) (grown (g .logical) o n) (blockCount (A f) g)
+
+-- a block count rounded up to whole clumps of c blocks: the fewest clumps that hold it
+unfoldable pub rounded : ℕ → ℕ → ℕ
+rounded c count = fewest count c * c
+
+-- The new blocks taken (document 02, T-07): a write that needs new blocks rounds the fork's block count up to whole clumps if enough are
+-- free, and otherwise takes exactly what it needs; one that needs none takes none. A clump is c blocks, and the fork has count of them.
+unfoldable pub taken : ℕ → ℕ → ℕ → ℕ → ℕ
+taken c free count need =
+    let more = rounded c (count + need) - count in
+    cond (eqb need 0) 0 (cond (leb more free) more need)
+
+-- those that a write of n bytes at o in the fork g takes
+unfoldable pub takenBlocks : VolumeFacts → ForkFacts → ℕ → ℕ → ℕ
+takenBlocks f g o n = taken (clump f) (freeCount f) (blockCount (A f) g) (neededBlocks f g o n)
 
 -- 12: the given name's length is 0 or above 255
 unfoldable pub badName : List ℕ → Bool
@@ -197,13 +212,13 @@ unfoldable pub created : VolumeFacts → List ℕ → List ℕ → List ℕ
 created f image e =
     withFiles (f .files + 1) (withNext (nextNumber f + 1) (withDirectory f image (placed e (directoryBlocks f image))))
 
--- Write: the missing blocks are taken, lowest free number first, and joined at the end in that order; the last one's entry is
--- 1. Bytes of new blocks beyond the written ones stay. The change date is as given, also for n = 0.
+-- Write: the blocks are taken, lowest free number first, and joined at the end in that order; the last one's entry is 1.
+-- Bytes of new blocks beyond the written ones stay. The change date is as given, also for n = 0.
 unfoldable pub written : VolumeFacts → List ℕ → List ℕ → Fork → ℕ → List ℕ → ℕ → ForkFacts → List ℕ
 written f image name fork o xs changed g =
     let old = forkBlocks (mapEntry image) (A f) g in
     let logical = grown (g .logical) o (length xs) in
-    let new = needed (A f) logical (length old) in
+    let new = takenBlocks f g o (length xs) in
     let all = old ++ take new (freeBlocks (mapEntry image) (N f)) in
     withFree (freeCount f - new)
     (withDirectory f (putContent (S f) (A f) (putChain image all) all o xs)
@@ -214,8 +229,9 @@ written f image name fork o xs changed g =
 unfoldable pub shortened : VolumeFacts → List ℕ → List ℕ → Fork → ℕ → ℕ → ForkFacts → List ℕ
 shortened f image name fork n changed g =
     let old = forkBlocks (mapEntry image) (A f) g in
-    let kept = take (fewest n (A f)) old in
-    let freed = drop (fewest n (A f)) old in
+    let count = fewest n (A f) in
+    let kept = take count old in
+    let freed = drop count old in
     withFree (freeCount f + length freed)
     (withDirectory f (putFree (putChain image kept) freed)
     (rewritten name (withFork fork (A f) n kept changed) (directoryBlocks f image)))

@@ -1,5 +1,5 @@
--- The disk HALL, the P cases as one table under one statement, and six tables of further cases, the second on long names, the
--- third on wrapped files, the fourth on accents, the fifth on three bytes and two entries, the sixth on rename.
+-- The disk HALL, the P cases as one table under one statement, and seven tables of further cases, the second on long names, the
+-- third on wrapped files, the fourth on accents, the fifth on three bytes and two entries, the sixth on rename, the seventh on clumps.
 use Prim.Native.Nat.{ℕ, zero, suc, _+_, _-_, _*_, _/_, _%_, _<_}
 use mathlib.Core.Path.{_≡_}
 use mathlib.Core.Bool.{Bool, true, false, _||_}
@@ -9,11 +9,11 @@ use lib.ListN.{length, getD, take, drop, replicate}
 use lib.Seq.{paste}
 use Rattle.model.specs.Lists.{flat, from}
 use Rattle.model.specs.Bytes.{byte, bytes16, bytes32, zeros, part}
-use Rattle.model.specs.Facts.{factsOf, blocksIn, noFacts}
+use Rattle.model.specs.Facts.{factsIn, factsOf, clump, blocksIn, noFacts}
 use Rattle.model.specs.Map.{mapEntry, setEntry, putChain, pairByte, threeBytes, entriesIn, bytesFor}
 use Rattle.model.specs.Directory.{noEntry, sameByte}
 use Rattle.model.specs.Check.{fires3, verdict}
-use Rattle.model.specs.Calls.{Call, Answer, lent, refusal, reply, change, only, tellsFacts, tellsEntry, tellsBlock, answer, after}
+use Rattle.model.specs.Calls.{Call, Answer, taken, lent, refusal, reply, change, only, tellsFacts, tellsEntry, tellsBlock, answer, after}
 use Rattle.model.specs.Container.{checksum, tagChecksum, badHeader, badLengths, renewed}
 use Rattle.model.specs.Calls.Call.{check, entry, find, block, read, create, write, cut, delete, wrap, rename}
 use Rattle.model.specs.Wrapped.{fileAnswer, fileAfter}
@@ -157,6 +157,10 @@ pub data Row : Type 0 where
   looks : (bytes : List ℕ) (b at ab cd ef value : ℕ) → Row
   -- the same image with that entry for a block: its bytes from 1088 on
   puts : (bytes : List ℕ) (b value : ℕ) (left : List ℕ) → Row
+  -- A, the clump size, and how many blocks the clump has
+  clumps : (a size blocks : ℕ) → Row
+  -- the clump in blocks, the free blocks, those that the fork has and those that the write needs, and how many it takes
+  takes : (c free count need new : ℕ) → Row
 
 unfoldable pub Right : Row → Type 0
 Right (pair ab cd ef x y) =
@@ -202,6 +206,8 @@ Right (splits ab cd ef first second) =
 Right (looks bytes b at ab cd ef value) =
     (pairByte b ≡ at) × (threeBytes (zeros 1088 ++ bytes) at ≡ record { ab = ab; cd = cd; ef = ef }) × (mapEntry (zeros 1088 ++ bytes) b ≡ value)
 Right (puts bytes b value left) = setEntry (zeros 1088 ++ bytes) b value ≡ zeros 1088 ++ left
+Right (clumps a size blocks) = clump (factsIn (zeros 20 ++ (bytes32 a ++ bytes32 size))) ≡ blocks
+Right (takes c free count need new) = taken c free count need ≡ new
 
 -- every row of the list
 infixr 5 _&_
@@ -693,5 +699,55 @@ renamings =
     ∷ does (tightDisk 1 [] 4) (rename RATES NEWS 9) (only 0 []) (withBytes 2548 (dated 9 NEWS (0 ∷ [])) (tightDisk 1 [] 4))
     ∷ []
 
+-- HALL with another clump size
+unfoldable pub clumpDisk : ℕ → List ℕ
+clumpDisk size = withBytes 1048 (bytes32 size) hall
+
+-- document 02, T-07
+unfoldable pub clumped : List Row
+clumped =
+    -- a multiple of A and at least A: 2·A, 3·A, A, 65,535·A
+    clumps 512 1024 2
+    ∷ clumps 512 1536 3
+    ∷ clumps 512 512 1
+    ∷ clumps 512 33553920 65535
+    ∷ clumps 1536 4608 3
+    -- else one block: A+1, 0, A/2; between two multiples, and a multiple of 512 alone
+    ∷ clumps 512 513 1
+    ∷ clumps 512 0 1
+    ∷ clumps 512 256 1
+    ∷ clumps 512 1535 1
+    ∷ clumps 1536 4096 1
+    -- the fork's count is rounded, and not the new blocks
+    ∷ takes 2 2 1 1 1
+    ∷ takes 3 9 4 1 2
+    -- enough are free, and one too few: exactly what it needs
+    ∷ takes 4 3 5 1 3
+    ∷ takes 4 2 5 1 1
+    ∷ takes 3 2 0 1 1
+    ∷ takes 65535 640 0 3 3
+    -- none needed, none taken, whatever the count; what is needed makes whole clumps; a clump of one block
+    ∷ takes 3 9 2 0 0
+    ∷ takes 3 9 2 1 1
+    ∷ takes 1 9 2 4 4
+    -- P3 with a clump of two: the fork has four blocks, none is free, and what the last two hold beyond the bytes written stays
+    ∷ does (clumpDisk 1024) (write WEEK1 Data 700 (sample 0 400) 9) (only 0 [])
+    (withBytes 1058 (bytes16 0) (withBytes 1088 (0x00 ∷ 0x40 ∷ 0x01 ∷ 0x00 ∷ 0x50 ∷ 0x06 ∷ 0x00 ∷ 0x10 ∷ [])
+    (withWeek1 2 1100 2048 9 (withBytes 3772 (sample 0 324) (withBytes 4096 (sample 324 76) (clumpDisk 1024))))))
+    -- with a clump of five one block too few is free: P3 as it is
+    ∷ does (clumpDisk 2560) (write WEEK1 Data 700 (sample 0 400) 9) (only 0 [])
+    (withBytes 1058 (bytes16 1) (withBytes 1088 (0x00 ∷ 0x40 ∷ 0x01 ∷ 0x00 ∷ 0x50 ∷ 0x01 ∷ [])
+    (withWeek1 2 1100 1536 9 (withBytes 3772 (sample 0 324) (withBytes 4096 (sample 324 76) (clumpDisk 2560))))))
+    -- P4 with a clump of three: six blocks are too many, and 17 is not asked of them; P5 gets 17 all the same
+    ∷ does (clumpDisk 1536) (write WEEK1 Data 700 (sample 0 1348) 9) (only 0 [])
+    (withBytes 1058 (bytes16 0) (withBytes 1088 (0x00 ∷ 0x40 ∷ 0x01 ∷ 0x00 ∷ 0x50 ∷ 0x06 ∷ 0x00 ∷ 0x10 ∷ [])
+    (withWeek1 2 2048 2048 9 (withBytes 3772 (sample 0 324) (withBytes 4096 (sample 324 1024) (clumpDisk 1536))))))
+    ∷ refused 17 (write WEEK1 Data 700 (sample 0 1349) 9) (clumpDisk 1024)
+    -- P8 with a clump of two: one block is kept
+    ∷ does (clumpDisk 1024) (cut WEEK1 Data 512 9) (only 0 [])
+    (withBytes 1058 (bytes16 3) (withBytes 1088 (0x00 ∷ 0x10 ∷ 0x01 ∷ 0x00 ∷ 0x00 ∷ 0x00 ∷ []) (withWeek1 2 512 512 9 (clumpDisk 1024))))
+    ∷ []
+
 unfoldable pub FurtherCases : Type 0
-FurtherCases = AllRight telling × AllRight longNames × AllRight containers × AllRight accented × AllRight threes × AllRight renamings
+FurtherCases =
+    AllRight telling × AllRight longNames × AllRight containers × AllRight accented × AllRight threes × AllRight renamings × AllRight clumped

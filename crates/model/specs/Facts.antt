@@ -1,9 +1,9 @@
--- Volume facts, and the rule from an allocation block to its first byte.
+-- Volume facts, the clump in blocks, and the rule from an allocation block to its first byte.
 use Prim.Native.Nat.{ℕ, _+_, _-_, _*_, _/_, _%_}
-use mathlib.Core.Bool.{Bool, _||_}
+use mathlib.Core.Bool.{Bool, _&&_, _||_, cond}
 use mathlib.Core.List.{List}
 use lib.ListN.{length, take, drop}
-use lib.Dec.{eqb}
+use lib.Dec.{eqb, leb}
 use Rattle.model.specs.Bytes.{byte, be16, be32, zeros, part}
 use Rattle.model.specs.declared.VolumeFacts.{VolumeFacts}
 use Rattle.model.specs.declared.LogicalBlock.{LogicalBlock}
@@ -57,6 +57,10 @@ nextNumber f = f .«next_number»
 
 abbrev pub freeCount : VolumeFacts → ℕ
 freeCount f = f .«free_blocks»
+
+-- The clump counts if it is a multiple of A and at least A, else it is one block (document 02, T-07). This is how many blocks it has.
+unfoldable pub clump : VolumeFacts → ℕ
+clump f = let size = f .«clump_size» in cond (leb (A f) size && eqb (size % A f) 0) (size / A f) 1
 
 -- attributes: bit 7 or bit 15 set means locked
 unfoldable pub isLocked : VolumeFacts → Bool

@@ -81,17 +81,17 @@ module _ (s : tie.Start) where
   held : FileAt (s .args .f) (now (s .args .image)) (s .args .e)
   held = s .pre .0 .held
 
-  blocks-few : s .args .g .physical / A (s .args .f) + s .args .need ≤ 640
-  blocks-few = grown-few held (s .args .fork) (s .args .g) (s .pre .0 .is) (s .args .need) (s .pre .1 .2)
+  blocks-few : s .args .g .physical / A (s .args .f) + s .args .new ≤ 640
+  blocks-few = grown-few held (s .args .fork) (s .args .g) (s .pre .0 .is) (s .args .new) (s .pre .1 .2)
 
   bytes-fit : max (s .args .g .logical) (s .args .offset + length (now (s .args .bytes)))
-      ≤ (s .args .g .physical / A (s .args .f) + s .args .need) * A (s .args .f)
+      ≤ (s .args .g .physical / A (s .args .f) + s .args .new) * A (s .args .f)
   bytes-fit =
-      grown-fits held (s .args .fork) (s .args .g) (s .pre .0 .is) (s .args .need) (s .pre .1 .2)
+      grown-fits held (s .args .fork) (s .args .g) (s .pre .0 .is) (s .args .new) (s .pre .1 .2)
       (s .args .offset) (now (s .args .bytes)) (s .pre .1 .0) (s .pre .1 .1)
 
-  bytes-most : (s .args .g .physical / A (s .args .f) + s .args .need) * A (s .args .f) ≤ 20971520
-  bytes-most = grown-most held (s .args .fork) (s .args .g) (s .pre .0 .is) (s .args .need) (s .pre .1 .2)
+  bytes-most : (s .args .g .physical / A (s .args .f) + s .args .new) * A (s .args .f) ≤ 20971520
+  bytes-most = grown-most held (s .args .fork) (s .args .g) (s .pre .0 .is) (s .args .new) (s .pre .1 .2)
 
 -- the blocks that the fork has
 has-is : (c : tie.After-block-count) → c .block-count .result ≡ start c .args .g .physical / A (start c .args .f)
@@ -100,19 +100,19 @@ has-is c = c .block-count .ensures
 
 -- the image with the chain grown, and its first block
 module _ (c : tie.After-extend) where
-  chain-put : let a = start (has c) .args in c .extend .last .0 ≡ putChain (now (a .image)) (grownBlocks (a .f) (now (a .image)) (a .g) (a .need))
+  chain-put : let a = start (has c) .args in c .extend .last .0 ≡ putChain (now (a .image)) (grownBlocks (a .f) (now (a .image)) (a .g) (a .new))
   chain-put = rw (has-is (has c)) at (c .extend .ensures .0)
 
-  first-is : let a = start (has c) .args in c .extend .result .0 ≡ firstOr0 (grownBlocks (a .f) (now (a .image)) (a .g) (a .need))
+  first-is : let a = start (has c) .args in c .extend .result .0 ≡ firstOr0 (grownBlocks (a .f) (now (a .image)) (a .g) (a .new))
   first-is = rw (has-is (has c)) at (c .extend .ensures .1)
 
 -- the image with the bytes stored
 stored : (c : tie.After-fill-fork) → let a = first c .args in
-    c .fill-fork .last .0 ≡ grownBase (a .f) (now (a .image)) (a .g) (a .need) (a .offset) (now (a .bytes))
+    c .fill-fork .last .0 ≡ grownBase (a .f) (now (a .image)) (a .g) (a .new) (a .offset) (now (a .bytes))
 stored c =
     let x = grown c in
     let s = first c in
-    grown-stored (held s) (s .args .fork) (s .args .g) (s .pre .0 .is) (s .args .need) (s .pre .1 .2)
+    grown-stored (held s) (s .args .fork) (s .args .g) (s .pre .0 .is) (s .args .new) (s .pre .1 .2)
     (x .extend .last .0) (x .extend .result .0) (chain-put x) (first-is x)
     (s .args .offset) (now (s .args .bytes)) (c .fill-fork .last .0) (rw (has-is (has x)) at (c .fill-fork .ensures))
 
@@ -145,7 +145,7 @@ fill-fork-requires c κs =
     let k = has x in
     let s = start k in
     rw (has-is k) (
-      grown-fillable (held s) (s .args .fork) (s .args .g) (s .pre .0 .is) (s .args .need) (s .pre .1 .2)
+      grown-fillable (held s) (s .args .fork) (s .args .g) (s .pre .0 .is) (s .args .new) (s .pre .1 .2)
           (x .extend .last .0) (x .extend .result .0) (chain-put x) (first-is x),
       within _ _ _ (bytes-fit s),
     )
@@ -172,7 +172,7 @@ store-fork-requires : tie.Need-store-fork-requires
 store-fork-requires c κs =
     let x = filled (c .before) in
     let s = first x in
-    grown-stands (held s) (s .args .fork) (s .args .g) (s .pre .0 .is) (s .args .need) (s .pre .1 .2)
+    grown-stands (held s) (s .args .fork) (s .args .g) (s .pre .0 .is) (s .args .new) (s .pre .1 .2)
     (s .args .offset) (now (s .args .bytes)) (s .pre .1 .0) (s .pre .1 .1) (x .fill-fork .last .0) (stored x)
 
 sub-put-free : tie.Need-sub-put-free
@@ -199,11 +199,11 @@ returns c h =
     let x = filled v in
     let w = grown x in
     let s = first x in
-    grown-written h (s .args .fork) (s .args .g) (s .pre .0 .is) (s .args .need) (s .pre .1 .2)
+    grown-written h (s .args .fork) (s .args .g) (s .pre .0 .is) (s .args .new) (s .pre .1 .2)
     (s .args .offset) (now (s .args .bytes)) (s .pre .1 .0) (s .pre .1 .1)
     (x .fill-fork .last .0) (y .store-fork .last .0) (z .put-free .last .0) (w .extend .result .0) (v .larger .result)
-    (has w .block-count .result + s .args .need) (s .args .changed)
-    (stored x) (first-is w) (v .larger .ensures) (ap (λ (n : ℕ). n + s .args .need) (has-is (has w))) (y .store-fork .ensures) (z .put-free .ensures)
+    (has w .block-count .result + s .args .new) (s .args .changed)
+    (stored x) (first-is w) (v .larger .ensures) (ap (λ (n : ℕ). n + s .args .new) (has-is (has w))) (y .store-fork .ensures) (z .put-free .ensures)
 
 pub grow-fork-spec : {M : Type 1} → statement M
 grow-fork-spec =

@@ -1,13 +1,13 @@
--- `new_blocks` meets its contract. Assumes nothing.
+-- `needed_blocks` meets its contract. Assumes nothing.
 use Prim.Native.Nat.{_-_}
 use mathlib.Core.Path.{_≡_, refl, sym, ap, _∙_}
 use native.Mathlib.Omega.{arith}
 use native.Mathlib.Nat.{div-le-self}
 use Rattle.model.specs.Directory.{blockCount}
-use Rattle.model.specs.Calls.{fewest, newBlocks}
-use Rattle.forks.proofs.Growing.{new-blocks, too-many, grows, grows-not}
-use Rattle.forks.proofs.needs.new_blocks.Statement.{statement}
-use Rattle.forks.proofs.needs.new_blocks.Tie as tie
+use Rattle.model.specs.Calls.{fewest, neededBlocks}
+use Rattle.forks.proofs.Growing.{needed-blocks, too-many, grows, grows-not}
+use Rattle.forks.proofs.needs.needed_blocks.Statement.{statement}
+use Rattle.forks.proofs.needs.needed_blocks.Tie as tie
 
 returns : tie.Need-returns
 returns c =
@@ -55,17 +55,17 @@ module _ (c : tie.After-blocks-for) where
   abbrev start : tie.Start
   start = has .before .before
 
-  need : newBlocks (start .args .f) (start .args .g) (start .args .offset) (start .args .count) ≡ c .blocks-for .result - has .block-count .result
+  need : neededBlocks (start .args .f) (start .args .g) (start .args .offset) (start .args .count) ≡ c .blocks-for .result - has .block-count .result
   need =
       let a = start .args in
-      new-blocks (a .f) (a .g) (a .offset) (a .count) (c .blocks-for .result) (has .block-count .result)
+      needed-blocks (a .f) (a .g) (a .offset) (a .count) (c .blocks-for .result) (has .block-count .result)
       (c .blocks-for .ensures ∙ ap (λ x. fewest x (a .f .«block_size»)) (size .larger .ensures)) (has .block-count .ensures)
 
 returns-2 : tie.Need-returns-2
 returns-2 c =
     let k = c .before in
     let a = start k .args in
-    let none : newBlocks (a .f) (a .g) (a .offset) (a .count) ≡ 0 = omega (arith, need k, c .if2 .taken) in
+    let none : neededBlocks (a .f) (a .g) (a .offset) (a .count) ≡ 0 = omega (arith, need k, c .if2 .taken) in
     grows (a .f) (a .g) (a .offset) (a .count) (record { number = 0; blocks = 0 }) (omega arith) refl (sym none)
 
 sub-need : tie.Need-sub-need
@@ -90,8 +90,8 @@ returns-4 c =
     grows (a .f) (a .g) (a .offset) (a .count) (record { number = 0; blocks = k .blocks-for .result - has k .block-count .result })
     (omega (arith, need k, c .if3 .left)) refl (sym (need k))
 
-pub new-blocks-spec : {M : Type 1} → statement M
-new-blocks-spec =
+pub needed-blocks-spec : {M : Type 1} → statement M
+needed-blocks-spec =
     tie.close
     (tie.spec
     returns
