@@ -19,6 +19,7 @@ import sys
 
 import accents
 import chooser
+import clumps
 import hall
 import listing
 import maker
@@ -38,7 +39,7 @@ NINE = replay.NINE
 ALL = replay.ALL
 
 # stdin has fewer bytes than this
-LARGEST = {'reading': 4000000, 'all': 19500000}
+LARGEST = {'reading': 4000000, 'all': 20100000}
 FEWEST_CALLS = {'reading': 2000, 'all': 6000}
 FEWEST_EACH = 10
 
@@ -441,6 +442,7 @@ def all_list():
     accents.runs(tape)
     renames.runs(tape)
     parts.runs(tape)
+    clumps.runs(tape)
     large_changes(tape)
     wrapped_runs.runs(tape)
     return tape

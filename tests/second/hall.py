@@ -12,11 +12,13 @@ LISTING = (b'volume HALL files 2 free 2 of 5\n'
            b'2 512 0 2500000000 2500000000 RATES\n')
 
 
-def hall():
-    """The 12 blocks of HALL, written byte for byte."""
+def hall(clump=0):
+    """The 12 blocks of HALL, written byte for byte, with its own clump size or
+    another."""
     image = bytearray(12 * 512)
     struct.pack_into('>HIIHHHHHIIHIH5s', image, 1024,
-                     0xD2D7, 0, 0, 0, 2, 4, 1, 5, 512, 0, 5, 3, 2, b'\4HALL')
+                     0xD2D7, 0, 0, 0, 2, 4, 1, 5, 512, clump, 5, 3, 2,
+                     b'\4HALL')
     image[1088:1094] = bytes.fromhex('004001001000')
     form = '>BB16sIHIIHIIII6s'
     struct.pack_into(form, image, 2048, 0x80, 0, bytes(16), 1,

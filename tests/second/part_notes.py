@@ -85,10 +85,19 @@ class Room:
         self.lengths = lengths
         self.end = self.offset + len(data)
         self.ends = [self.offset + n for n in accumulate(lengths)]
-        held = list(accumulate(
-            (volume.blocks_for(end, self.a) for end in self.ends), max,
-            initial=self.blocks))
-        self.new = [now - was for was, now in zip(held, held[1:])]
+        self.clump = volume.clump_blocks(self.v.facts.clump, self.a)
+        self.needed = volume.blocks_needed(self.blocks, self.end, self.a)
+        self.needs, self.new = [], []   # blocks that each part needs and takes
+        for end in self.ends:
+            self.grow(end)
+
+    def grow(self, end):
+        """What the part that ends here needs and takes."""
+        taken = sum(self.new)
+        held = self.blocks + taken
+        self.needs.append(volume.blocks_needed(held, end, self.a))
+        self.new.append(volume.blocks_taken(
+            held, self.needs[-1], self.free - taken, self.clump))
 
     def met(self, numbers):
         yield how_many(self.lengths)
@@ -142,7 +151,7 @@ class Room:
             yield 'new blocks by the last of several parts'
         if max(new) > 1:
             yield 'two or more new blocks by one part'
-        free = [b for b, entry in enumerate(self.v.map) if b > 1 and not entry]
+        free = self.v.free_blocks()
         if free[sum(new) - 1] - free[0] >= sum(new):
             yield 'new blocks not side by side'
         if self.surplus():

@@ -6,6 +6,7 @@ from collections import namedtuple
 import random
 
 import chooser
+import clump_notes
 import hall
 import maker
 import part_notes
@@ -92,6 +93,8 @@ def in_parts(tape, call, lengths, want=None, put_back=None):
     else:
         texts = part_notes.met(start, call, lengths, number, numbers)
     tape.note('parts', texts)
+    if number in (0, 17) and not tape.machine.wrapped:
+        tape.note('clumps', clump_notes.in_parts(start, call, lengths))
 
 
 # Writes and their parts
@@ -347,15 +350,20 @@ def in_a_file(tape, call, lengths):
     in_parts(tape, call, lengths, put_back=put_back)
 
 
+def open_state(tape):
+    """The state with only the files that are not locked and have short
+    names."""
+    v = tape.volume()
+    v.entries = [placed for placed in v.entries
+                 if placed.size < 90 and not placed.entry.flags & 1]
+    return chooser.state_of_volume(v)
+
+
 def on_a_disk(tape, aims):
-    """Writes with these aims in forks of files that are not locked and have
-    short names."""
+    """Writes with these aims in forks of such files."""
     rng = random.Random(87)
     for aim in aims:
-        v = tape.volume()
-        v.entries = [placed for placed in v.entries
-                     if placed.size < 90 and not placed.entry.flags & 1]
-        in_a_file(tape, *write_in(rng, chooser.state_of_volume(v), aim, 1500))
+        in_a_file(tape, *write_in(rng, open_state(tape), aim, 1500))
 
 
 def refused_file(tape, number, state, count):

@@ -5,10 +5,11 @@ every call the image must be accepted, must read as a plain history says, and
 must equal, byte for byte, what the maker's writer gives for the same change
 made in plain lists.  Names at the edges of 12, 21 and 14, old long names and
 accented names run so too, disks inside wrapped files, renames worked by hand,
-writes in parts beside the same in one piece, and the cases P1 to P12.
+writes in parts beside the same in one piece, clumps, and the cases P1 to P12.
 """
 
 from collections import Counter
+import itertools
 import random
 import struct
 import sys
@@ -18,6 +19,7 @@ import unittest
 import accent_notes
 import accents
 import chooser
+import clump_notes
 import diskcopy
 import generate
 import hall
@@ -57,12 +59,14 @@ class History:
     name, flags, Finder bytes, dates, and each fork's bytes and count of
     blocks.  It knows no image, map or directory block; of each answer it is
     told only whether it is 18.  It decides 21 (T-01 in document 02) from the
-    arguments alone."""
+    arguments alone, and counts the blocks in whole clumps by T-07."""
 
     def __init__(self, m):
         self.locked = m.attributes & 0x8080 != 0
         self.fixed = (m.created, m.backup, m.attributes)
         self.n, self.a = m.n, m.a
+        whole, rest = divmod(m.clump, m.a)
+        self.clump = whole if whole and not rest else 1
         self.next_number = m.next_number
         self.files = {}
         for file in m.files():
@@ -135,6 +139,9 @@ class History:
             need = max(count, fewest(len(whole), self.a))
             if need - count > self.free():
                 return 17
+            rounded = fewest(need, self.clump) * self.clump
+            if need > count and rounded - count <= self.free():
+                need = rounded
         else:
             length, changed = args[2:]
             whole = data[:length]
@@ -240,12 +247,28 @@ class Twin:
             return
         offset, data = call[3:5]
         fork.logical = max(fork.logical, offset + len(data))
-        while len(fork.blocks) * m.a < fork.logical:
-            fork.blocks.append(min(m.free_blocks()))
-            m.tie(fork)
+        self.grow(fork)
         for i, byte in enumerate(data):
             b = fork.blocks[(offset + i) // m.a]
             m.base[m.byte_of(b) + (offset + i) % m.a] = byte
+
+    def take(self, fork, count):
+        for _ in range(count):
+            fork.blocks.append(min(self.m.free_blocks()))
+            self.m.tie(fork)
+
+    def grow(self, fork):
+        """Takes blocks until the fork holds its bytes, and then all that is
+        missing of its last clump, or nothing."""
+        m = self.m
+        if len(fork.blocks) * m.a >= fork.logical:
+            return
+        while len(fork.blocks) * m.a < fork.logical:
+            self.take(fork, 1)
+        if m.clump and m.clump % m.a == 0:
+            missing = -len(fork.blocks) * m.a % m.clump // m.a
+            if missing <= m.free:
+                self.take(fork, missing)
 
     def keep(self, fork, count):
         for b in fork.blocks[count:]:
@@ -399,6 +422,13 @@ class WrappedRun(Run):
         return diskcopy.inside(self.image)
 
 
+def any_clump(rng, m):
+    """The volume with a clump size of any kind, often one that fits it."""
+    sizes = list(clump_notes.sizes(m.a, m.n).values())
+    m.clump = rng.choice(sizes + [2 * m.a, 3 * m.a, 4 * m.a] * 4)
+    return m
+
+
 def one_run(rng, run, calls, seen, kinds=KINDS):
     for _ in range(calls):
         call = chooser.choose(rng, run.history.state(), kinds)
@@ -417,11 +447,11 @@ class Runs(unittest.TestCase):
                                {'styles': ('full', 'nearly', 'short')},
                                {'next_kind': 'near'}, {'file_locks': 0.6}))
             limit = rng.choice((8, 9, 12, 16, 16, 24, 24, 40))
-            m = maker.make(rng, limit=limit, **want)
+            m = any_clump(rng, maker.make(rng, limit=limit, **want))
             one_run(rng, Run(m), CALLS, seen)
         for _ in range(10):
             one_run(rng, Run(maker.long_names(rng)), CALLS, seen)
-        one_run(rng, Run(maker.disk_400k(rng)), 20, seen)
+        one_run(rng, Run(any_clump(rng, maker.disk_400k(rng))), 20, seen)
         one_run(rng, Run(maker.most_blocks(rng)), 40, seen)
         one_run(rng, Run(maker.largest_blocks(rng)), 40, seen)
         one_run(rng, Run(maker.longest_directory(rng)), 10, seen)
@@ -942,8 +972,8 @@ class Wrapped(unittest.TestCase):
                      {'dir_length': 1, 'next_kind': 'near'},
                      {'per': 64, 'n': 12, 's': 20}, {'locked': True}):
             for tags in (False, True):
-                m = maker.disk_400k(self.rng, **{
-                    'dir_length': 2, 'base': 'sparse', **want})
+                m = any_clump(self.rng, maker.disk_400k(self.rng, **{
+                    'dir_length': 2, 'base': 'sparse', **want}))
                 around = wrapper.Wrapper(self.rng, tags=tags)
                 one_run(self.rng, WrappedRun(m, around), 2 * CALLS, seen,
                         NINE_KINDS)
@@ -1288,7 +1318,8 @@ class Parts(unittest.TestCase):
         aims = sum(parts.FITTING, ()) + parts.TOO_LONG * 2
         for i in range(300):
             per, n = ((1, 4), (1, 6), (2, 3), (1, 5), (3, 2))[i % 5]
-            m = parts.small(rng, (range(n), range(3))[i % 2], per=per, n=n)
+            m = any_clump(rng, parts.small(
+                rng, (range(n), range(3))[i % 2], per=per, n=n))
             call, lengths = parts.write_in(rng, chooser.state_of_made(m),
                                            rng.choice(aims))
             seen[self.both_ways(lambda: Run(m.copy()), call, lengths)] += 1
@@ -1316,14 +1347,184 @@ class Parts(unittest.TestCase):
         rng = random.Random(SEED + 15)
         seen = Counter()
         for i in range(8):
-            m = maker.disk_400k(rng, base='sparse', file_locks=0, per=64, n=12,
-                                s=20, full_disk=i % 2 == 1)
+            m = any_clump(rng, maker.disk_400k(
+                rng, base='sparse', file_locks=0, per=64, n=12, s=20,
+                full_disk=i % 2 == 1))
             around = wrapper.Wrapper(rng, tags=i % 4 > 1)
             aim = rng.choice(parts.TOO_LONG if i % 2 else parts.FITTING[0])
             call, lengths = parts.write_in(rng, chooser.state_of_made(m), aim)
             seen[self.both_ways(lambda: WrappedRun(m.copy(), around), call,
                                 lengths)] += 1
         self.assertGreaterEqual(min(seen[0], sum(seen.values()) - seen[0]), 3)
+
+
+class Clumps(unittest.TestCase):
+    """T-07 of document 02.  HALL, whose WEEK1 has the blocks 2 and 4 and 700
+    bytes, is worked by hand with other clump sizes; 5 and 6 are free."""
+
+    ONE_BLOCK = (0, 1, 256, 511, 512, 513, 1023, 1025, 1535, 1537, 2047, 2049,
+                 2304, 65535, 65537, 4294967295)
+    TOO_LARGE = (3072, 4096, 66560, 512 * 65535, 0x80000000, 4294966784)
+
+    def on_hall(self, clump, *calls):
+        """The image after these calls, which succeed."""
+        image = hall.hall(clump)
+        for call in calls:
+            self.assertEqual(carry_out(image, call)[0], 0, (clump, call))
+        self.assertEqual(volume.check(image)[0], 0)
+        return image
+
+    def is_hall(self, image, clump, text, free, *fields):
+        """HALL with this map, these free blocks, and other fields: each with
+        its place and its bytes."""
+        want = hall.hall(clump)
+        for at, data in ((1088, words(text)), (1024 + 34, bytes([0, free])),
+                         *fields):
+            want[at:at + len(data)] = data
+        self.assertEqual(image, want, clump)
+
+    def test_p3(self):
+        """A third block is needed: 2 and 4 are two blocks, 5 is taken, and 6
+        too where a clump has two or four.  Five would need 3 free blocks."""
+        call = ('W', b'WEEK1', 0, 700, b'x' * 400, 7)
+        for clumps, text, free, physical in (
+                (self.ONE_BLOCK + (1536, 2560) + self.TOO_LARGE,
+                 '0040010050010000', 1, '00000600'),
+                ((1024, 2048), '0040010050060010', 0, '00000800')):
+            for clump in clumps:
+                self.is_hall(
+                    self.on_hall(clump, call), clump, text, free,
+                    (2048 + 24, words('0000044C' + physical)),
+                    (2048 + 46, words('00000007')),
+                    (512 * 7 + 188, b'x' * 324), (512 * 8, b'x' * 76))
+
+    def test_no_new_block(self):
+        """P6, and bytes that go into the two blocks, which are no whole clump
+        of three or more."""
+        for clump in (1024, 1536, 2048, 2560) + self.ONE_BLOCK:
+            dated = (2048 + 46, words('00000007'))
+            for data in (b'', b'x', b'x' * 188):
+                image = self.on_hall(clump, ('W', b'WEEK1', 0, 512, data, 7))
+                self.is_hall(image, clump, '0040010010000000', 2, dated,
+                             (512 * 7, data))
+            image = self.on_hall(clump, ('W', b'WEEK1', 0, 700, b'y' * 324, 7))
+            self.is_hall(image, clump, '0040010010000000', 2, dated,
+                         (512 * 7 + 188, b'y' * 324),
+                         (2048 + 24, words('00000400')))
+            image = self.on_hall(clump, ('W', b'WEEK1', 1, 0, b'', 7))
+            self.is_hall(image, clump, '0040010010000000', 2, dated)
+
+    def test_room(self):
+        """P4 takes all that is free, P5 is refused, whatever the clump."""
+        for clump in ((1024, 1536, 2048, 2560) + self.ONE_BLOCK
+                      + self.TOO_LARGE):
+            call = ('W', b'WEEK1', 0, 700, bytes(1348), 7)
+            image = self.on_hall(clump, call)
+            self.is_hall(image, clump, '0040010050060010', 0,
+                         (2048 + 24, words('00000800' * 2)),
+                         (2048 + 46, words('00000007')))
+            image = hall.hall(clump)
+            self.assertEqual(
+                volume.write(image, b'WEEK1', 0, 700, bytes(1349), 7), 17)
+            self.assertEqual(
+                volume.write(image, b'RATES', 1, 0, bytes(1025), 7), 17)
+            self.assertEqual(image, hall.hall(clump))
+
+    def test_after_delete(self):
+        """Without RATES 3, 5 and 6 are free: a clump of five just fits."""
+        calls = (('D', b'RATES'), ('W', b'WEEK1', 0, 700, b'x' * 400, 7))
+        for clump, text, free in (
+                (512, '0040010030000000', 2), (1024, '0040050030010000', 1),
+                (1536, '0040010030000000', 2), (2048, '0040050030010000', 1),
+                (2560, '0040050030060010', 0), (3072, '0040010030000000', 2)):
+            image = self.on_hall(clump, *calls)
+            self.assertEqual(image[1088:1096], words(text), clump)
+            self.assertEqual(image[1024 + 35], free)
+            self.assertEqual(image[2048 + 28:2048 + 32],
+                             struct.pack('>I', 512 * (5 - free)))
+
+    def test_new_fork(self):
+        """Its bytes beyond the written one stay, in both blocks."""
+        for which, fields in ((0, 22), (1, 32)):
+            image = hall.hall(1024)
+            self.assertEqual(
+                volume.create(image, b'NEW', bytes(16), 3, 4), 0)
+            image[512 * 8:512 * 10] = b'\xAA' * 1024
+            want = bytearray(image)
+            self.assertEqual(volume.write(image, b'NEW', which, 0, b'n', 5), 0)
+            for at, data in ((1088, words('0040010010060010')),
+                             (1024 + 34, bytes(2)), (512 * 8, b'n'),
+                             (2048 + 112 + fields,
+                              words('00050000000100000400')),
+                             (2048 + 112 + 46, words('00000005'))):
+                want[at:at + len(data)] = data
+            self.assertEqual(image, want)
+
+    def test_cut(self):
+        """P7 and P8; and a cut to the own length gives back the rest."""
+        for clump in (512, 1024, 1536, 2048, 2560):
+            for length, text, free in (
+                    (700, '0040010010000000', 2), (513, '0040010010000000', 2),
+                    (512, '0010010000000000', 3), (1, '0010010000000000', 3),
+                    (0, '0000010000000000', 4)):
+                for before in ((), (('W', b'WEEK1', 0, 700, b'x' * 400, 6),)):
+                    image = self.on_hall(clump, *before,
+                                         ('U', b'WEEK1', 0, length, 7))
+                    self.assertEqual(image[1088:1096], words(text))
+                    self.assertEqual(image[1024 + 35], free)
+        image = self.on_hall(1024, ('W', b'WEEK1', 0, 700, b'x' * 400, 6),
+                             ('U', b'WEEK1', 0, 1100, 7))
+        self.assertEqual(image[1088:1096], words('0040010050010000'))
+
+    def test_runs(self):
+        """Small volumes with clumps of any kind, and all that writes meet."""
+        rng = random.Random(SEED + 16)
+        seen = Counter()
+        for i in range(160):
+            run = Run(any_clump(rng, maker.make(
+                rng, limit=24, per=rng.choice((1, 1, 2)), locked=False,
+                file_locks=0, free_most=i % 2 == 0)))
+            for _ in range(40):
+                call = chooser.choose(rng, run.history.state(), 'WWWWUUDNBR')
+                before = bytes(run.image)
+                number = run.call(*call)
+                if call[0] == 'W' and number in (0, 17):
+                    growth = clump_notes.Growth(before, call)
+                    if growth.clump > 1:
+                        seen[growth.outcome] += 1
+        for outcome in clump_notes.OUTCOMES:
+            self.assertGreaterEqual(seen[outcome], 10, outcome)
+
+    def test_clump_blocks(self):
+        for a in range(512, 32769, 512):
+            for size in {0, 1, a // 2, a - 512, a - 1, a, a + 1, a + 512,
+                         2 * a - 1, 2 * a, 2 * a + 1, 65535 * a,
+                         4294967295 // a * a, 4294967295}:
+                want = [n for n in (1, 2, 65535, 4294967295 // a)
+                        if n * a == size] or [1]
+                self.assertEqual(volume.clump_blocks(size, a), want[0])
+            for text, size in clump_notes.counting(a, 7).items():
+                self.assertEqual(volume.clump_blocks(size, a) * a, size, text)
+            for text, size in clump_notes.idle(a).items():
+                self.assertEqual(volume.clump_blocks(size, a), 1, text)
+
+    def test_taken(self):
+        """Against a search: the first count of whole clumps, if any, that the
+        fork can have; and what the notes call it."""
+        for have, needed, free, clump in itertools.product(
+                range(8), range(7), range(13), range(1, 9)):
+            if needed > free:
+                continue
+            counts = range(have + needed, have + free + 1)
+            whole = [count for count in counts if count % clump == 0]
+            want = (whole + [have + needed])[0] - have if needed else 0
+            taken = volume.blocks_taken(have, needed, free, clump)
+            self.assertEqual(taken, want)
+            text = clump_notes.outcome(have, needed, free, clump)
+            self.assertEqual(text.startswith('rounds'), taken > needed)
+            self.assertEqual(text == clump_notes.NONE, needed == 0)
+            self.assertEqual(text == clump_notes.WHOLE, taken == needed > 0
+                             and (have + needed) % clump == 0)
 
 
 def load_tests(loader, tests, pattern):

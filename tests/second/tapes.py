@@ -5,6 +5,7 @@ from collections import Counter
 
 import accent_notes
 import chooser
+import clump_notes
 import diskcopy
 import maker
 import part_notes
@@ -37,6 +38,7 @@ MUST_MEET = (['create: ' + text for text in CREATES]
              + ['changed: ' + text for text in CHANGES]
              + ['rename: ' + text for text in rename_notes.TEXTS]
              + ['parts: ' + text for text in part_notes.TEXTS]
+             + ['clumps: ' + text for text in clump_notes.TEXTS]
              + ['accents: ' + text for text in accent_notes.TEXTS])
 
 
@@ -102,7 +104,7 @@ class Tape:
     for each kind of length, the successes of each call on such a name and,
     under I, the accepted volumes that hold one, all on bare images; met counts
     what the calls met, by the texts of MUST_MEET; accents has more counts of
-    accented names."""
+    accented names; clumps knows what came before a call."""
 
     def __init__(self):
         self.records = []
@@ -110,13 +112,16 @@ class Tape:
         self.by_length = Counter()
         self.met = Counter()
         self.accents = accent_notes.Notes()
+        self.clumps = clump_notes.Notes()
 
     def add(self, *call):
         record = replay.record(call)
         self.records.append(record)
         before = self.snapshot() if call[0] == 'M' else None
+        image = bytes(self.inside())
         self.machine.run(record)
         self.note_accents(call)
+        self.note_clumps(image, call)
         if before is not None:
             self.note('rename', rename_notes.met(before, self.volume, call,
                                                  self.number()))
@@ -144,6 +149,14 @@ class Tape:
             before = 'X' if self.machine.wrapped else ''
             self.note('accents', [before + text for text in self.accents.call(
                 call, self.number())])
+
+    def note_clumps(self, image, call):
+        """Image is what the call found."""
+        if call[0] in 'IX':
+            self.clumps.new_image()
+        else:
+            self.note('clumps', self.clumps.call(
+                image, call, self.number(), self.machine.wrapped))
 
     def note_change(self, tag):
         if tag in replay.CHANGING and self.number() == 0:

@@ -1,6 +1,6 @@
 """The nine calls on a volume image, straight from the rules of document 01
-and, for number 21, of T-01 in document 02; and rename, from T-05 there.  Names
-compare by spelling.py.
+and, for number 21, of T-01 in document 02; and rename, from T-05 there.  A
+write takes whole clumps by T-07.  Names compare by spelling.py.
 
 The image is a bytearray.  Each call gives the number first: 0, or the number
 of the refusal.  A refusal changes no byte and its other results are zero.
@@ -68,6 +68,29 @@ def entry_size(name):
 def blocks_for(length, block_size):
     """The fewest blocks that hold this many bytes."""
     return -(-length // block_size)
+
+
+def blocks_needed(have, length, block_size):
+    """The new blocks that a fork which has so many needs to hold this many
+    bytes."""
+    return max(0, blocks_for(length, block_size) - have)
+
+
+def clump_blocks(clump, block_size):
+    """The blocks in a clump; one where the clump size does not count."""
+    if clump < block_size or clump % block_size:
+        return 1
+    return clump // block_size
+
+
+def blocks_taken(have, needed, free, clump):
+    """The new blocks that a write takes for a fork which has so many: none
+    where none is needed; else as many as make the fork's count one of whole
+    clumps of so many blocks, if they are free, or only the needed ones."""
+    if needed == 0:
+        return 0
+    rounded = needed + -(have + needed) % clump
+    return rounded if rounded <= free else needed
 
 
 def split_map(raw):
@@ -315,6 +338,21 @@ class Volume:
         FORK.pack_into(self.image, placed.at + FORK_AT[which],
                        start, logical, physical)
 
+    def free_blocks(self):
+        """The free blocks, lowest number first."""
+        return [b for b in range(2, self.facts.blocks + 2) if self.map[b] == 0]
+
+    def join(self, chain, count):
+        """Takes so many free blocks, lowest number first, joins them to the
+        chain at its end, and gives the longer chain."""
+        new = self.free_blocks()[:count]
+        if chain:
+            self.store_map(chain[-1], new[0])
+        for b, following in zip(new, new[1:] + [1]):
+            self.store_map(b, following)
+        self.store_free(self.facts.free - count)
+        return chain + new
+
     def dir_block_end(self, d):
         return (self.facts.dir_start + d + 1) * LOGICAL_BLOCK
 
@@ -420,27 +458,22 @@ def write(image, name, fork, offset, data, changed):
         if offset > logical:
             raise Refused(16)
         logical = max(logical, offset + len(data))
-        chain = placed.chains[fork]
-        missing = blocks_for(logical, v.facts.block_size) - len(chain)
-        if missing > v.facts.free:
+        chain, facts = placed.chains[fork], v.facts
+        needed = blocks_needed(len(chain), logical, facts.block_size)
+        if needed > facts.free:
             raise Refused(17)
     except Refused as refused:
         return refused.number
-    if missing > 0:
-        free = [b for b in range(2, v.facts.blocks + 2) if v.map[b] == 0]
-        new = free[:missing]
-        if chain:
-            v.store_map(chain[-1], new[0])
-        for b, following in zip(new, new[1:] + [1]):
-            v.store_map(b, following)
-        chain = chain + new
-        v.store_free(v.facts.free - missing)
+    taken = blocks_taken(len(chain), needed, facts.free,
+                         clump_blocks(facts.clump, facts.block_size))
+    if taken:
+        chain = v.join(chain, taken)
     v.store_fork(placed, fork, chain, logical)
     v.store(placed.at + CHANGED_AT, 4, changed)
-    taken = 0
+    done = 0
     for at, run in v.pieces(chain, offset, len(data)):
-        image[at:at + run] = data[taken:taken + run]
-        taken += run
+        image[at:at + run] = data[done:done + run]
+        done += run
     return 0
 
 

@@ -4,7 +4,8 @@ Thirty weeks of hourly readings, a tariff, a log that grows by the day, a list
 of meters that is locked, a program for the hall's display with a resource
 fork.  All files are made by the second program's own calls, in the order in
 which a desk would make them: the log grows between the weeks' days, and two
-weeks were deleted before the tariff came, so that files lie scattered.
+weeks were deleted before the tariff came, so that files lie scattered.  The
+clump size is stored last, as no desk rounded to clumps then (T-07).
 """
 
 import datetime
@@ -17,6 +18,7 @@ MONDAY = datetime.datetime(1985, 1, 7)
 WEEKS = 32
 DELETED = (3, 17)
 SCHOOLS = 19
+CLUMP = 8192
 
 
 def seconds(moment):
@@ -28,7 +30,7 @@ def formatted():
     image = bytearray(800 * 512)
     struct.pack_into('>HIIHHHHHIIHIH6s', image, 1024, 0xD2D7,
                      seconds(MONDAY), seconds(MONDAY), 0, 0, 4, 12, 391,
-                     1024, 8192, 16, 1, 391, b'\5WATER')
+                     1024, 0, 16, 1, 391, b'\5WATER')
     return image
 
 
@@ -119,6 +121,7 @@ def water():
             desk.put(b'Tariff', text, tariff(),
                      datetime.datetime(1985, 6, 24, 9, 30))
     desk.lock(b'Meters')
+    struct.pack_into('>I', desk.image, 1024 + 24, CLUMP)
     # the backup copy in the last two blocks
     desk.image[798 * 512:] = desk.image[2 * 512:4 * 512]
     desk.done(volume.check(desk.image)[0])

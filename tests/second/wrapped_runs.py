@@ -8,6 +8,7 @@ import random
 
 import accents
 import chooser
+import clumps
 import diskcopy
 import hall
 import maker
@@ -131,10 +132,10 @@ def with_tags(tape):
 
 def last_numbers(tape):
     """Creates up to the last file number, on a disk of large blocks that is
-    full of bytes."""
+    full of bytes; a clump has three of them."""
     rng = random.Random(36)
-    m = maker.disk_400k(rng, per=64, n=12, s=20, next_kind='near',
-                        file_locks=0.4)
+    m = clumps.with_clump(maker.disk_400k(
+        rng, per=64, n=12, s=20, next_kind='near', file_locks=0.4), '3 A')
     tape.add('X', wrapper.Wrapper(rng, name_length=0, tags=True).file(
         m.image()))
     for length in (1, 5, 9, 31, 30, 8, 32):
@@ -142,6 +143,7 @@ def last_numbers(tape):
         tape.some(rng, 'EFW')
     tape.some(rng, [rng.choice('CEFBRNNWWWUUD') for _ in range(300)])
     parts.on_a_disk(tape, parts.FITTING[3])
+    clumps.on_a_disk(tape, 36)
     tape.add('C')
 
 
