@@ -113,7 +113,7 @@ typedef struct {
     uint16_t directory_length;  /* in blocks of 512 bytes */
     uint16_t allocation_blocks; /* how many there are; they are numbered from 2 on */
     uint32_t block_size;        /* bytes in an allocation block */
-    uint32_t clump_size;        /* carried; no call uses it */
+    uint32_t clump_size;        /* bytes in a clump: see mfs_write */
     uint32_t allocation_start;  /* the block of 512 bytes where allocation block 2 starts */
     uint32_t next_number;       /* the number that the next created file gets */
     uint16_t free_blocks;       /* free allocation blocks */
@@ -199,14 +199,17 @@ uint8_t mfs_create(uint8_t *image, size_t image_length, const uint8_t *name, siz
 
 /*
  * Stores bytes in a fork from an offset on, and the change date, also for no bytes. The offset is at most the fork's logical
- * length; the fork grows where the bytes reach behind its end, by free blocks, lowest number first.
- * Refusals: 1 to 10, 11, 12, 13, 15, 16, 17.
+ * length; the fork grows where the bytes reach behind its end, by free blocks, lowest number first. If it needs new blocks, it
+ * takes as many as bring all its blocks to whole clumps; where fewer are free, just those that it needs. A clump has
+ * facts.clump_size bytes if that is a multiple of facts.block_size and not below it; else it is one block.
+ * Refusals: 1 to 10, 11, 12, 13, 15, 16, 17 for the blocks that the fork needs.
  */
 uint8_t mfs_write(uint8_t *image, size_t image_length, const uint8_t *name, size_t name_length, uint8_t fork, uint64_t offset,
                   const uint8_t *bytes, size_t bytes_length, uint32_t changed);
 
 /*
- * Cuts a fork to its first bytes, as many as size says, frees the blocks that it no longer needs, and stores the change date.
+ * Cuts a fork to its first bytes, as many as size says, frees every block that these do not need, spare ones of a clump too, and
+ * stores the change date.
  * Refusals: 1 to 10, 11, 12, 13, 15, 16.
  */
 uint8_t mfs_cut(uint8_t *image, size_t image_length, const uint8_t *name, size_t name_length, uint8_t fork, uint64_t size,

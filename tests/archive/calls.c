@@ -1,6 +1,7 @@
 /*
  * The calls of the archive on known answers: document 01's disk HALL, its P cases, each number that a call can give, and writes
- * in parts. Each test is made on the image by itself and on it in wrapped files. Then the tests of rename.c and wrapped.c.
+ * in parts. Each test is made on the image by itself and on it in wrapped files. Then the tests of clumps.c, rename.c and
+ * wrapped.c.
  * usage: calls HALL-IMAGE. A line for each test; exit status 1 where one fails.
  */
 #include "support.h"
@@ -8,21 +9,6 @@
 #define LARGE MFS_IMAGE_400K
 
 /* ---- images and answers */
-
-/* The wanted map begins with these six bytes, and the wanted free count is this. */
-static void want_map(const char *bytes, unsigned free_blocks)
-{
-    memcpy(want + 1088, bytes, 6);
-    put16(want + 1058, free_blocks);
-}
-
-/* The wanted lengths and change date of WEEK1's data fork. */
-static void want_week1(uint32_t logical, uint32_t physical, uint32_t changed)
-{
-    put32(want + ENTRY1 + 24, logical);
-    put32(want + ENTRY1 + 28, physical);
-    put32(want + ENTRY1 + 46, changed);
-}
 
 /* An 800-block volume with no files, S = 16, A = 1,024. */
 static void large(unsigned blocks)
@@ -372,12 +358,12 @@ static void same_in_parts(const uint8_t *name, size_t size, uint8_t fork, uint64
     EXPECT(memcmp(lent, single, lent_length(HALL)) == 0);
 }
 
-/* Parts that end with blocks and beside their ends, with empty ones first, last and between; from 700 on they fill HALL. */
+/* Parts that end with blocks and beside their ends, with empty ones first, last and between; most fill HALL from 700 on. */
 static void parts_that_succeed(void)
 {
     static const size_t rows[][5] = {
         {1348, 0, 0, 0, 0}, {0, 0, 0, 0, 1348}, {324, 512, 512, 0, 0}, {0, 324, 0, 512, 512}, {325, 511, 1, 511, 0},
-        {1, 1346, 0, 0, 1}, {323, 1, 1, 1023, 0}};
+        {1, 1346, 0, 0, 1}, {323, 1, 1, 1023, 0}, {324, 76, 0, 0, 0}, {325, 0, 75, 200, 0}};
     size_t forty[PARTS], i;
 
     for (i = 0; i < sizeof rows / sizeof rows[0]; i++)
@@ -389,6 +375,18 @@ static void parts_that_succeed(void)
     same_in_parts(RATES, MFS_RESOURCE_FORK, 0, forty, PARTS - 16);
     memset(forty, 0, sizeof forty);
     same_in_parts(WEEK1, MFS_DATA_FORK, 700, forty, PARTS);
+}
+
+/* The same on HALL with clumps of two, three, four and five blocks. */
+static void parts_in_clumps(void)
+{
+    uint32_t clump_size;
+
+    for (clump_size = 1024; clump_size <= 2560; clump_size += 512) {
+        put32(hall + 1048, clump_size);
+        parts_that_succeed();
+    }
+    put32(hall + 1048, 0);
 }
 
 /* 1,349 bytes meet 17, as in P5: in one part, and in the second of two, which leaves what the first has left. */
@@ -753,6 +751,7 @@ static const struct test tests[] = {
     {"find, create, check: accents in both spellings", accents},
     {"write, block, read, cut: the fork's number", fork_numbers},
     {"write in parts: what the single write leaves", parts_that_succeed},
+    {"write in parts: the same with clumps", parts_in_clumps},
     {"write in parts: 17 at a later part", parts_without_room},
     {"write in parts: refused otherwise", parts_refused},
     {"P1", p1},
@@ -809,6 +808,7 @@ int main(int argc, char **argv)
     memset(letters, 'n', sizeof letters);
     failed = run_tests(tests, sizeof tests / sizeof tests[0], forms, 3);
     failed |= run_tests(only_bare, sizeof only_bare / sizeof only_bare[0], forms, 1);
+    failed |= test_clumps();
     failed |= test_rename();
     return test_wrapped() || failed;
 }

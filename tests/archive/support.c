@@ -113,6 +113,19 @@ int as_wanted(size_t length)
     return unchanged(length);
 }
 
+void want_map(const char *bytes, unsigned free_blocks)
+{
+    memcpy(want + 1088, bytes, 6);
+    put16(want + 1058, free_blocks);
+}
+
+void want_week1(uint32_t logical, uint32_t physical, uint32_t changed)
+{
+    put32(want + ENTRY1 + 24, logical);
+    put32(want + ENTRY1 + 28, physical);
+    put32(want + ENTRY1 + 46, changed);
+}
+
 /* ---- answers */
 
 int same_facts(mfs_facts a, mfs_facts b)

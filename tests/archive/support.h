@@ -88,6 +88,12 @@ int unchanged(size_t length);
 /* Whether the image is as wanted, and of a wrapped file all else is as it was kept, but for the data checksum, which is right. */
 int as_wanted(size_t length);
 
+/* The wanted map begins with these six bytes, and the wanted free count is this. */
+void want_map(const char *bytes, unsigned free_blocks);
+
+/* The wanted lengths and change date of WEEK1's data fork. */
+void want_week1(uint32_t logical, uint32_t physical, uint32_t changed);
+
 /* The checksum of a run of 16-bit words. */
 uint32_t checksum(const uint8_t *at, size_t length);
 
@@ -114,7 +120,8 @@ void each_refuses(size_t length, uint8_t number);
 /* Runs each test in these forms, and prints a line for it. Gives 1 where one fails. */
 int run_tests(const struct test *tests, size_t count, const struct form *const *forms, size_t form_count);
 
-/* The tests of rename.c and of wrapped.c. */
+/* The tests of clumps.c, of rename.c and of wrapped.c. */
+int test_clumps(void);
 int test_rename(void);
 int test_wrapped(void);
 

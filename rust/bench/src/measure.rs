@@ -2,7 +2,7 @@
 
 use crate::baseline::{self, Fork, Form, Refusal};
 use crate::call::{Bytes, Call};
-use crate::images::{self, get2, get4, DATA, HEADER};
+use crate::images::{self, get2, get4, put4, DATA, HEADER};
 use crate::{foreign, stack};
 use std::hint::black_box;
 
@@ -121,8 +121,8 @@ fn number<T>(result: Result<T, Refusal>) -> u8 {
 }
 
 /// The calls on an accepted volume, all on its last file: the whole data fork is read, written over, written anew after
-/// a cut to 0, and cut to half. The file is renamed where its entry stays, and where it is taken out and put in again.
-/// Create has an image without that file. A 400K disk is wrapped too.
+/// a cut to 0, also in clumps of eight blocks, and cut to half. The file is renamed where its entry stays, and where it
+/// is taken out and put in again. Create has an image without that file. A 400K disk is wrapped too.
 fn calls_on(image: &[u8]) -> Vec<Measured> {
     let files = u64::from(get2(image, 1036));
     let last = baseline::entry(image, files - 1).expect("an accepted volume with a file");
@@ -133,7 +133,8 @@ fn calls_on(image: &[u8]) -> Vec<Measured> {
     baseline::delete(&mut without_last, &name).expect("the last file is there");
     let mut emptied = image.to_vec();
     baseline::cut(&mut emptied, &name, Fork::Data, 0, 0).expect("the last file is there");
-    let (named, half, last_block) = (|| name.clone(), u64::from(logical / 2), u64::from(blocks) - 1);
+    let (named, new) = (|| name.clone(), || Bytes(b"NEW 1".to_vec()));
+    let (half, last_block) = (u64::from(logical / 2), u64::from(blocks) - 1);
     let write = Call::Write(named(), 0, 0, bytes, 3);
     let read = Call::Read(named(), 0, 0, logical as usize);
     let mut calls = vec![
@@ -142,16 +143,13 @@ fn calls_on(image: &[u8]) -> Vec<Measured> {
         Measured::new("find", image, Call::Find(named())),
         Measured::new("block", image, Call::Block(named(), 0, last_block)),
         Measured::new("read", image, read.clone()),
-        Measured::new(
-            "create",
-            &without_last,
-            Call::Create(Bytes(b"NEW 1".to_vec()), [7; 16], 1, 2),
-        ),
+        Measured::new("create", &without_last, Call::Create(new(), [7; 16], 1, 2)),
         Measured::new("write", image, write.clone()),
         Measured::new("write new", &emptied, write.clone()),
+        Measured::new("write clumps", &in_clumps(&emptied), write.clone()),
         Measured::new("cut", image, Call::Cut(named(), 0, half, 3)),
         Measured::new("delete", image, Call::Delete(named())),
-        Measured::new("rename", image, Call::Rename(named(), Bytes(b"NEW 1".to_vec()), 3)),
+        Measured::new("rename", image, Call::Rename(named(), new(), 3)),
         Measured::new(
             "rename longer",
             image,
@@ -162,6 +160,14 @@ fn calls_on(image: &[u8]) -> Vec<Measured> {
         calls.extend(wrapped_calls(image, read, write));
     }
     calls
+}
+
+/// The image with clumps of eight blocks.
+fn in_clumps(image: &[u8]) -> Vec<u8> {
+    let mut image = image.to_vec();
+    let size = 8 * get4(&image, 1044);
+    put4(&mut image, 1048, size);
+    image
 }
 
 /// Calls on the wrapped file of a 400K disk without tags, and the wrap that makes it.

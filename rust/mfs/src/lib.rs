@@ -58,7 +58,7 @@ pub struct Facts {
     pub allocation_blocks: u16,
     /// Bytes in an allocation block.
     pub block_size: u32,
-    /// The clump size.
+    /// Bytes in a clump: see [`Volume::write`].
     pub clump_size: u32,
     /// The logical block where the allocation blocks start.
     pub allocation_start: u32,
@@ -207,7 +207,9 @@ impl Volume {
         Refusal::of(ffi::create(self, file, name, finder, created, changed))
     }
 
-    /// Stores bytes in a fork from an offset on; the fork grows where they reach beyond its end.
+    /// Stores bytes in a fork from an offset on; the fork grows where they reach beyond its end. If it needs new blocks,
+    /// it takes as many as bring all its blocks to whole clumps; where fewer are free, just those that it needs. A clump
+    /// has [`Facts::clump_size`] bytes if that is a multiple of the block size and not below it; else it is one block.
     pub fn write(
         self,
         file: &mut [u8],
@@ -220,7 +222,7 @@ impl Volume {
         Refusal::of(ffi::write(self, file, name, fork, offset, bytes, changed))
     }
 
-    /// Cuts a fork to its first bytes.
+    /// Cuts a fork to its first bytes, and frees every block that these do not need, spare ones of a clump too.
     pub fn cut(self, file: &mut [u8], name: &[u8], fork: Fork, size: u64, changed: u32) -> Result<(), Refusal> {
         Refusal::of(ffi::cut(self, file, name, fork, size, changed))
     }

@@ -1,5 +1,5 @@
-//! The library on the disk HALL: the worked cases of document 01, writes in parts, renames, refusals, and lengths of
-//! names and of the image.
+//! The library on the disk HALL: the worked cases of document 01, writes in parts and in clumps, renames, refusals, and
+//! lengths of names and of the image.
 
 #![allow(clippy::unwrap_used, clippy::expect_used, clippy::indexing_slicing)]
 
@@ -171,6 +171,40 @@ fn writes_in_parts() {
     }
     let (given, left) = in_parts(701, &bytes, 400);
     assert_eq!((given.map_err(Refusal::number), left), (Err(16), hall()));
+}
+
+/// HALL with a clump size, in bytes.
+fn hall_in_clumps(size: u32) -> Vec<u8> {
+    let mut image = hall();
+    image[1048..1052].copy_from_slice(&size.to_be_bytes());
+    image
+}
+
+#[test]
+fn writes_in_clumps() {
+    let blocks_and_free = |image: &[u8]| {
+        let facts = Volume::Bare.check(image).unwrap();
+        (blocks(image, b"WEEK1"), facts.free_blocks)
+    };
+    let write = |image: &mut [u8], length| Volume::Bare.write(image, b"WEEK1", Fork::Data, 700, &vec![1; length], DATE);
+    // three blocks are needed: rounded up to four; a whole clump; five are too many; a clump of one block
+    for (size, wanted) in [
+        (1024, (vec![2, 4, 5, 6], 0)),
+        (1536, (vec![2, 4, 5], 1)),
+        (2560, (vec![2, 4, 5], 1)),
+        (1025, (vec![2, 4, 5], 1)),
+    ] {
+        let mut image = hall_in_clumps(size);
+        assert_eq!(Volume::Bare.check(&image).unwrap().clump_size, size);
+        write(&mut image, 400).unwrap();
+        assert_eq!(blocks_and_free(&image), wanted, "{size}");
+        // the blocks that the bytes do not need are cut off
+        Volume::Bare.cut(&mut image, b"WEEK1", Fork::Data, 1100, DATE).unwrap();
+        assert_eq!(blocks_and_free(&image), (vec![2, 4, 5], 1));
+        let mut image = hall_in_clumps(size);
+        let given = write(&mut image, 1349).map_err(Refusal::number);
+        assert_eq!((given, image), (Err(17), hall_in_clumps(size)));
+    }
 }
 
 #[test]

@@ -139,7 +139,7 @@ pub fn facts(facts: &Facts) -> String {
         ),
         ("block size", count(facts.block_size.into(), "byte")),
         ("free", free(facts)),
-        ("clump size", facts.clump_size.to_string()),
+        ("clump size", count(facts.clump_size.into(), "byte")),
     ];
     lines.map(labelled).concat()
 }

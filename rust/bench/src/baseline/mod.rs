@@ -119,36 +119,40 @@ pub fn write(
     if offset > u64::from(facts.logical) {
         return Err(Refusal::BeyondFork);
     }
-    let offset = offset as usize;
+    let (offset, had) = (offset as usize, volume.block_count(facts));
     let logical = (facts.logical as usize).max(offset + bytes.len());
-    let had = volume.block_count(facts);
-    let wanted = logical.div_ceil(volume.block_size()).max(had);
-    if wanted - had > usize::from(volume.facts.free_blocks) {
+    let needed = volume.blocks_needed(had, logical);
+    if needed > volume.free_count() {
         return Err(Refusal::VolumeFull);
     }
+    let taken = volume.blocks_taken(had, needed);
 
-    let mut chain = Vec::with_capacity(wanted);
+    let mut chain = Vec::with_capacity(had + taken);
     chain.extend(volume.chain(facts));
-    chain.extend(volume.free_blocks().take(wanted - had));
-    let mut rest = bytes;
-    for (to, length) in volume.parts(chain.iter().copied(), offset, bytes.len()) {
-        let (part, behind) = rest.split_at(length);
-        image[to..to + length].copy_from_slice(part);
-        rest = behind;
-    }
-    if wanted > had {
+    chain.extend(volume.free_blocks().take(taken));
+    store(image, volume.parts(chain.iter().copied(), offset, bytes.len()), bytes);
+    if taken > 0 {
         join(image, &chain, had);
-        let free = volume.facts.free_blocks - (wanted - had) as u16;
-        put_u16(image, volume_at::FREE_BLOCKS, free);
+        put_u16(image, volume_at::FREE_BLOCKS, (volume.free_count() - taken) as u16);
     }
     let grown = ForkFacts {
         start: chain.first().copied().unwrap_or(0),
         logical: logical as u32,
-        physical: (wanted * volume.block_size()) as u32,
+        physical: (chain.len() * volume.block_size()) as u32,
     };
     grown.put(image, at + fork.at());
     put_u32(image, at + entry_at::CHANGED, changed);
     Ok(())
+}
+
+/// Stores bytes in parts: where each goes, and its length.
+fn store(image: &mut [u8], parts: impl Iterator<Item = (usize, usize)>, bytes: &[u8]) {
+    let mut rest = bytes;
+    for (to, length) in parts {
+        let (part, behind) = rest.split_at(length);
+        image[to..to + length].copy_from_slice(part);
+        rest = behind;
+    }
 }
 
 /// Joins the blocks of a chain that are new, those behind the first `had`, to its end.

@@ -1,4 +1,5 @@
-//! Document 01's worked disk and its cases P1 to P12, what the cases leave out, and document 02's names and renames.
+//! Document 01's worked disk and its cases P1 to P12, what the cases leave out, and document 02's names, renames and
+//! clumps.
 
 use super::map::decode_map;
 use super::*;
@@ -424,6 +425,57 @@ fn a_file_is_renamed_to_its_other_spelling() {
         rename(&mut image, b"WEEK1", b"\x8Et\x8E", DATE),
         Err(Refusal::NameExists)
     );
+}
+
+/// HALL with a clump size.
+fn hall_in_clumps(size: u32) -> Vec<u8> {
+    let mut image = images::hall();
+    put_u32(&mut image, volume_at::CLUMP_SIZE, size);
+    image
+}
+
+#[test]
+fn writes_take_whole_clumps_if_so_many_are_free() {
+    for (clump_size, bytes, chain) in [
+        // two are free and 3 blocks are needed: rounded up to 4; a whole clump; 5 and more are too many
+        (1024, 400, &[2, 4, 5, 6][..]),
+        (2048, 400, &[2, 4, 5, 6]),
+        (1536, 400, &[2, 4, 5]),
+        (2560, 400, &[2, 4, 5]),
+        (3072, 400, &[2, 4, 5]),
+        (4_294_966_784, 400, &[2, 4, 5]),
+        // 4 are needed, and 6 are too many
+        (1536, 1348, &[2, 4, 5, 6]),
+        // none is needed
+        (1536, 324, &[2, 4]),
+        (2048, 0, &[2, 4]),
+        // a clump of one block
+        (512, 400, &[2, 4, 5]),
+        (0, 400, &[2, 4, 5]),
+        (256, 400, &[2, 4, 5]),
+        (1023, 400, &[2, 4, 5]),
+        (1025, 400, &[2, 4, 5]),
+        (u32::MAX, 400, &[2, 4, 5]),
+    ] {
+        let mut image = hall_in_clumps(clump_size);
+        write(&mut image, b"WEEK1", Fork::Data, 700, &vec![1; bytes], DATE).unwrap();
+        assert_eq!(chain_of(&image, b"WEEK1"), chain, "{clump_size} {bytes}");
+        assert_eq!(usize::from(free(&image)), 4 - chain.len());
+        let mut image = hall_in_clumps(clump_size);
+        let refused = write(&mut image, b"WEEK1", Fork::Data, 700, &[1; 1349], DATE);
+        assert_eq!((refused, image), (Err(Refusal::VolumeFull), hall_in_clumps(clump_size)));
+    }
+}
+
+#[test]
+fn a_cut_keeps_the_fewest_blocks() {
+    for (size, chain) in [(1100, &[2, 4, 5][..]), (1024, &[2, 4]), (1, &[2]), (0, &[])] {
+        let mut image = hall_in_clumps(1024);
+        write(&mut image, b"WEEK1", Fork::Data, 700, &[1; 400], DATE).unwrap();
+        cut(&mut image, b"WEEK1", Fork::Data, size, DATE).unwrap();
+        assert_eq!(chain_of(&image, b"WEEK1"), chain);
+        assert_eq!(usize::from(free(&image)), 4 - chain.len());
+    }
 }
 
 #[test]

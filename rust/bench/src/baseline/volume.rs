@@ -77,6 +77,36 @@ impl Volume {
         fork.physical as usize / self.block_size()
     }
 
+    pub fn free_count(&self) -> usize {
+        usize::from(self.facts.free_blocks)
+    }
+
+    /// The new blocks that a fork of `had` blocks needs to hold so many bytes.
+    pub fn blocks_needed(&self, had: usize, bytes: usize) -> usize {
+        bytes.div_ceil(self.block_size()).saturating_sub(had)
+    }
+
+    /// The new blocks that it takes: those needed or, if there are any and so many are free, those that bring all its
+    /// blocks to whole clumps.
+    pub fn blocks_taken(&self, had: usize, needed: usize) -> usize {
+        let rounded = (had + needed).next_multiple_of(self.clump()) - had;
+        if needed > 0 && rounded <= self.free_count() {
+            rounded
+        } else {
+            needed
+        }
+    }
+
+    /// How many blocks a clump has: one where the clump size does not count.
+    fn clump(&self) -> usize {
+        let (clump_size, block_size) = (self.facts.clump_size as usize, self.block_size());
+        if clump_size >= block_size && clump_size.is_multiple_of(block_size) {
+            clump_size / block_size
+        } else {
+            1
+        }
+    }
+
     /// The blocks of a fork in their order.
     pub fn chain(&self, fork: ForkFacts) -> impl Iterator<Item = u16> + '_ {
         let mut block = fork.start;

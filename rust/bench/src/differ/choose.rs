@@ -128,7 +128,8 @@ fn bytes(random: &mut Random, length: usize) -> Vec<u8> {
     bytes
 }
 
-fn fork_facts(image: &[u8], name: &[u8], fork: u8) -> ForkFacts {
+/// The fork's fields; zero where the image is refused or has no such file.
+pub fn fork_facts(image: &[u8], name: &[u8], fork: u8) -> ForkFacts {
     match baseline::find(image, name) {
         Ok((_, Entry { data, .. })) if fork == 0 => data,
         Ok((_, Entry { resource, .. })) => resource,
@@ -305,7 +306,7 @@ mod tests {
         // to its own name; to another of the same size, in its place; to a longer or shorter one, in its block, to a
         // block before it, to one behind it
         let mut done = [0; 5];
-        for _ in 0..3_000 {
+        for _ in 0..4_000 {
             let mut image = volumes::full(&mut random);
             let call = call(&mut random, &image, RENAME);
             let Call::Rename(name, new, _) = &call else {

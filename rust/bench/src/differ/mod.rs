@@ -1,9 +1,10 @@
 //! The archive against the baseline in one process: the same calls on the same images and wrapped files, and after
 //! each call the number, all that it handed out, the image or file and the buffer are compared. Writes are made in
-//! parts too, and held to request T-06.
+//! parts too, and held to request T-06; those that meet clumps, request T-07, are counted.
 
 mod answer;
 mod choose;
+mod clumps;
 mod lent;
 mod parts;
 
@@ -13,11 +14,15 @@ use crate::images::{self, DATA, HEADER};
 use crate::random::Random;
 use crate::volumes;
 use answer::Answer;
+use clumps::Clumps;
 use lent::Lent;
 use parts::Splits;
 use std::fmt;
 
 const BUFFER_BYTE: u8 = 0x5A;
+
+/// The number for a write that has no room.
+const FULL: u8 = 17;
 
 /// The numbers that calls give, 0 to 24.
 const NUMBERS: usize = 25;
@@ -43,6 +48,9 @@ pub struct Report {
     wrapped: Numbers,
     bare_splits: Splits,
     wrapped_splits: Splits,
+    /// All writes, and of those that were split the single ones.
+    clumps: Clumps,
+    split_clumps: Clumps,
 }
 
 type Numbers = [[u64; NUMBERS]; KINDS.len()];
@@ -141,6 +149,8 @@ impl Differ {
                 wrapped: [[0; NUMBERS]; KINDS.len()],
                 bare_splits: Splits::default(),
                 wrapped_splits: Splits::default(),
+                clumps: Clumps::default(),
+                split_clumps: Clumps::default(),
             },
             memory: Memory::default(),
         }
@@ -241,6 +251,8 @@ impl Differ {
             found.push("the buffer was changed, where nothing may change".to_string());
         }
         self.report.count(form, &call, number);
+        let (image, after) = (image_in(form, before), image_in(form, file));
+        self.report.clumps.count(&call, image, after, number);
         if archive == baseline && found.is_empty() {
             return Ok(number);
         }
@@ -313,7 +325,9 @@ impl fmt::Display for Report {
         writeln!(f, "seed {}: {} calls, no difference", self.seed, self.calls)?;
         write_numbers(f, "", &self.bare)?;
         write_numbers(f, "wrapped ", &self.wrapped)?;
-        write!(f, "{}wrapped {}", self.bare_splits, self.wrapped_splits)
+        write!(f, "{}wrapped {}", self.bare_splits, self.wrapped_splits)?;
+        write!(f, "writes and clumps: {}", self.clumps)?;
+        write!(f, "writes split and clumps: {}", self.split_clumps)
     }
 }
 
@@ -338,8 +352,8 @@ mod tests {
 
     #[test]
     fn a_short_run_has_no_difference() {
-        let report = run(1, 3_000).unwrap_or_else(|difference| panic!("{difference}"));
-        assert!(report.calls >= 3_000);
+        let report = run(1, 10_000).unwrap_or_else(|difference| panic!("{difference}"));
+        assert!(report.calls >= 10_000);
         assert!(report.bare[..WRAP].iter().all(|row| row[0] > 0), "each call succeeds");
         assert!(report.bare[5][21] > 0, "create refuses a long name");
         for number in [11, 12, 13, 14, 15, 18, 21] {

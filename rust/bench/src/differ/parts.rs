@@ -2,16 +2,13 @@
 //! other.
 
 use super::answer::Answer;
-use super::{bytes_that_differ, choose, image_in, Compared, Differ, Difference, LARGE, TURNS};
+use super::{bytes_that_differ, choose, image_in, Compared, Differ, Difference, FULL, LARGE, TURNS};
 use crate::baseline::Form;
 use crate::call::{Bytes, Call};
 use crate::random::Random;
 use crate::volumes;
 use std::fmt;
 use std::ops::Range;
-
-/// The number for a write that has no room.
-const FULL: u8 = 17;
 
 /// The most parts of a write, and of one on a large image.
 const MOST: u64 = 40;
@@ -121,6 +118,9 @@ impl Differ {
             Form::Wrapped => &mut self.report.wrapped_splits,
         };
         splits.count(split);
+        let (whole, before) = (split.write.whole(), image_in(split.form, split.before));
+        let after = image_in(split.form, split.whole);
+        self.report.split_clumps.count(&whole, before, after, split.number);
         let found = split.against();
         if found.is_empty() {
             return Ok(());
@@ -128,7 +128,7 @@ impl Differ {
         Err(Box::new(Difference {
             seed: self.report.seed,
             at: split.at,
-            call: split.write.whole(),
+            call: whole,
             form: split.form,
             archive: Answer::Change(split.number),
             baseline: Answer::Change(split.number),

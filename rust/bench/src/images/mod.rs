@@ -20,6 +20,7 @@ pub struct Geometry {
     pub allocation_start: usize,
     pub block_size: usize,
     pub allocation_blocks: usize,
+    pub clump_size: u32,
     pub next_number: u32,
     pub name: Vec<u8>,
 }
@@ -133,6 +134,7 @@ fn put_facts(image: &mut [u8], geometry: &Geometry, files: &[(usize, FileSpec)])
     put2(image, 1040, geometry.directory_length as u16);
     put2(image, 1042, geometry.allocation_blocks as u16);
     put4(image, 1044, geometry.block_size as u32);
+    put4(image, 1048, geometry.clump_size);
     put2(image, 1052, geometry.allocation_start as u16);
     put4(image, 1054, geometry.next_number);
     image[1060] = geometry.name.len() as u8;

@@ -13,6 +13,7 @@ pub fn hall() -> Vec<u8> {
         allocation_start: 5,
         block_size: 512,
         allocation_blocks: 5,
+        clump_size: 0,
         next_number: 3,
         name: b"HALL".to_vec(),
     };
@@ -42,6 +43,7 @@ fn disk_400k() -> Geometry {
         allocation_start: 16,
         block_size: 1024,
         allocation_blocks: 391,
+        clump_size: 0,
         next_number: 1000,
         name: b"WATER".to_vec(),
     }
@@ -56,6 +58,7 @@ pub fn large_directory() -> Geometry {
         allocation_start: 260,
         block_size: 512,
         allocation_blocks: 640,
+        clump_size: 0,
         next_number: 3000,
         name: b"ARCHIVE".to_vec(),
     }

@@ -26,11 +26,11 @@ pub fn volume(random: &mut Random) -> Vec<u8> {
     with_free(random, geometry, free)
 }
 
-/// An accepted volume that has a file, and at most four free blocks.
+/// An accepted volume that has a file, and at most eight free blocks.
 pub fn nearly_full(random: &mut Random) -> Vec<u8> {
     loop {
         let geometry = geometry(random);
-        let free = random.index(geometry.allocation_blocks.min(4) + 1);
+        let free = random.index(geometry.allocation_blocks.min(8) + 1);
         let image = with_free(random, geometry, free);
         if !entries(&image).is_empty() {
             return image;
@@ -98,6 +98,7 @@ fn geometry(random: &mut Random) -> Geometry {
         allocation_start,
         block_size: sectors * 512,
         allocation_blocks,
+        clump_size: clump_size(random, sectors as u64 * 512, allocation_blocks as u64),
         next_number: 1,
         name,
     }
@@ -119,6 +120,22 @@ fn allocation(random: &mut Random) -> (usize, usize) {
         _ => random.between(1, 40),
     };
     (sectors as usize, blocks as usize)
+}
+
+/// A clump size: mostly one of a few blocks, else one of about all blocks, of far more, of one, or one that does not
+/// count.
+fn clump_size(random: &mut Random, block_size: u64, blocks: u64) -> u32 {
+    let size = match random.below(16) {
+        0 => 0,
+        1 => [block_size / 2, block_size - 1, block_size + 1][random.index(3)],
+        2 => block_size * random.between(1, 4) + random.between(1, block_size - 1),
+        3 => random.below(1 << 32),
+        4 => block_size,
+        5 => block_size * (blocks + random.below(3)),
+        6 => (1 << 32) / block_size * block_size - block_size,
+        _ => block_size * random.between(2, 6),
+    };
+    size as u32
 }
 
 /// 0 half of the time, else below `end`.

@@ -3,7 +3,7 @@
 use std::ffi::OsStr;
 use std::path::Path;
 
-use mfs::Volume;
+use mfs::{Fork, Refusal, Volume};
 
 use super::{misused, name, refused, unfit};
 use crate::args::Arguments;
@@ -11,6 +11,7 @@ use crate::console::Console;
 use crate::dates;
 use crate::failure::Failure;
 use crate::files;
+use crate::listing;
 use crate::names;
 use crate::save::Target;
 
@@ -19,6 +20,9 @@ const NO_DATE: &str = "--date is missing: a disk keeps the dates of the desk's o
 
 /// The refusal of a name's length, which `rename` may give for either of two.
 const NAME_LENGTH: u8 = 12;
+
+/// The refusal of a write for want of room.
+const NO_ROOM: u8 = 17;
 
 /// Makes calls on a copy of an image, bare or wrapped, and saves it if they were done.
 fn change(
@@ -58,8 +62,49 @@ pub fn put(arguments: &Arguments, _: &mut Console) -> Result<(), Failure> {
             Err(_) => volume.create(image, &name, &finder, date, date),
         };
         let done = ready.and_then(|()| volume.write(image, &name, fork, 0, &bytes, date));
-        done.map_err(refused(path))
+        done.map_err(unwritten(path, volume, image, &name, fork))
     })
+}
+
+/// The failure of a write to a fork. For want of room it tells of spare blocks, if there are any.
+fn unwritten<'a>(
+    path: &'a OsStr,
+    volume: Volume,
+    image: &'a [u8],
+    name: &'a [u8],
+    fork: Fork,
+) -> impl Fn(Refusal) -> Failure + 'a {
+    move |refusal| {
+        let full = refusal.number() == NO_ROOM;
+        let spare = full.then(|| spare_blocks(volume, image, name, fork).unwrap_or(0));
+        let told = spare
+            .filter(|&spare| spare > 0)
+            .map(|spare| listing::count(spare, "spare block"));
+        Failure::Refused {
+            image: names::path(path),
+            refusal,
+            remark: told
+                .map(|told| format!("other forks have {told}; mfs cut to a fork's own length frees its spare ones")),
+        }
+    }
+}
+
+/// How many blocks hold no byte of the forks that have them, and can be freed. Those of the fork named are left out: a
+/// write to it fills them.
+fn spare_blocks(volume: Volume, image: &[u8], name: &[u8], fork: Fork) -> Result<u64, Refusal> {
+    let size = volume.check(image)?.block_size;
+    let (own, _) = volume.find(image, name)?;
+    let mut spare = 0;
+    for (entry, place) in volume.entries(image)?.iter().zip(0..) {
+        for other in [Fork::Data, Fork::Resource] {
+            let facts = entry.fork(other);
+            if !entry.is_locked() && (place, other) != (own, fork) {
+                let unused = facts.physical.saturating_sub(facts.logical);
+                spare += u64::from(unused.checked_div(size).unwrap_or(0));
+            }
+        }
+    }
+    Ok(spare)
 }
 
 /// The name that a new file gets: what `--as` gives, or its own on this machine.
@@ -105,7 +150,7 @@ pub fn append(arguments: &Arguments, _: &mut Console) -> Result<(), Failure> {
         let end = found.map_or(0, |(_, entry)| entry.fork(fork).logical);
         volume
             .write(image, &name, fork, end.into(), &bytes, date)
-            .map_err(refused(path))
+            .map_err(unwritten(path, volume, image, &name, fork))
     })
 }
 

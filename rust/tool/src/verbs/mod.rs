@@ -100,6 +100,9 @@ Without FILE, or for -, they go to standard output.
 Without --as the name is FILE's own. A file that is there keeps its number,
 type, creator and creation date. A new one has a name of at most 31 characters,
 and the type and creator given, ???? for each that is not.
+A fork that needs blocks takes whole clumps, by the disk's clump size, if so
+many are free; else what it needs. Blocks without a byte are spare: mfs cut to
+the fork's own length frees them.
 ",
         options: &["-r", "--as", "--type", "--creator", "--date", "--wrapped", "--bare"],
         fewest: 2,
@@ -110,7 +113,9 @@ and the type and creator given, ???? for each that is not.
         name: "append",
         takes: "[-r] --date DATE IMAGE NAME FILE",
         does: "bytes behind the fork's end",
-        more: "",
+        more: "\
+Blocks are taken as by put.
+",
         options: &["-r", "--date", "--wrapped", "--bare"],
         fewest: 3,
         most: 3,
@@ -120,7 +125,10 @@ and the type and creator given, ???? for each that is not.
         name: "cut",
         takes: "[-r] --date DATE IMAGE NAME LENGTH",
         does: "the fork's first bytes stay",
-        more: "",
+        more: "\
+Every block that they do not need is free then. LENGTH may be the fork's own
+length: only spare blocks go.
+",
         options: &["-r", "--date", "--wrapped", "--bare"],
         fewest: 3,
         most: 3,
