@@ -1,6 +1,6 @@
 -- Laws of the growth of a fork on an accepted image: what it needs and what it leaves.
 use Prim.Native.Nat.{ℕ, _+_, _-_, _*_, _/_, _≤_, max}
-use mathlib.Core.Path.{_≡_, sym, ap, subst, _∙_}
+use mathlib.Core.Path.{_≡_, ap, _∙_}
 use mathlib.Core.Bool.{true}
 use mathlib.Core.List.{List, [], _∷_, _++_}
 use native.Mathlib.Omega.{arith}
@@ -76,14 +76,14 @@ module _ (image : List ℕ) (acc : Accepted image) (name : List ℕ) (there : an
       let s = write-sound (N f) (ar .few) image (omega (arith, ar .low, ar .room)) p t bs r h (lowest-free (N f) (ar .few) e k) in
       each-right (Linked (mapEntry (putChain image (bs ++ r))) (N f)) p ((bs ++ r) ∷ t) (s .linked) .0
 
-  stored-based : (o : ℕ) (xs : List ℕ) (new : ℕ) → o ≤ forkOf fork (theEntry image acc name there) .logical
-      → new ≡ takenBlocks (factsOf image) (forkOf fork (theEntry image acc name there)) o (length xs) → new ≤ freeCount (factsOf image)
+  stored-based : (o : ℕ) (xs : List ℕ) (new : ℕ) → o ≤ forkOf fork (theEntry image acc name there) .logical → new ≤ freeCount (factsOf image)
+      → sizeAfter (forkOf fork (theEntry image acc name there)) o xs
+      ≤ (blockCount (A (factsOf image)) (forkOf fork (theEntry image acc name there)) + new) * A (factsOf image)
       → Based image (grownBase (factsOf image) image (forkOf fork (theEntry image acc name there)) new o xs)
   unfolding forkBlocks blockCount
-  stored-based o xs new at q enough =
-      let large = subst (λ (k : ℕ). sizeAfter its o xs ≤ (blockCount (A f) its + k) * A f) (sym q) (taken-hold f its o (length xs) (area image acc .some)) in
+  stored-based o xs new at enough holds =
       let r = write-frame (S f) (A f) (N f) (freeCount f) image (area image acc) (around image acc name there fork) (beyond image acc name there fork) its
-      (passes-there image acc name there fork) new o xs at enough large in
+      (passes-there image acc name there fork) new o xs at enough holds in
       based image acc (blocksAfter (mapEntry image) (N f) (A f) its new) (afterWrite (S f) (A f) (N f) image its new o xs) r
 
 -- ---- the growth of a named file's fork
@@ -152,16 +152,19 @@ module _ {f : VolumeFacts} {image : List ℕ} {e : EntryAt} (h : FileAt f image 
           ∙ ap (λ (m : List ℕ). putContent (S f) (A f) m (grownBlocks f image g new) o xs) p
 
     module _ (o : ℕ) (xs : List ℕ) (at : o ≤ g .logical) (is : new ≡ takenBlocks f g o (length xs)) where
+      grown-holds : sizeAfter g o xs ≤ (blockCount (A f) g + new) * A f
+      grown-holds = rw is (taken-hold f g o (length xs) (omega (arith, large-block (h .readable))))
+
       pub grown-fits : max (g .logical) (o + length xs) ≤ (g .physical / A f + new) * A f
       unfolding grown blockCount
-      grown-fits = rw is (taken-hold f g o (length xs) (omega (arith, large-block (h .readable))))
+      grown-fits = grown-holds
 
       based-grown : Based image (grownBase f image g new o xs)
       based-grown =
           let at′ = rw fork-is at at in
-          let is′ = rw (h .readable .facts, fork-is) at is in
           let enough′ = rw (h .readable .facts) at enough in
-          rw (h .readable .facts, fork-is) (stored-based image (h .readable .accepted) (h .name) (h .found .there .exists) fork o xs new at′ is′ enough′)
+          let holds′ = rw (h .readable .facts, fork-is) at grown-holds in
+          rw (h .readable .facts, fork-is) (stored-based image (h .readable .accepted) (h .name) (h .found .there .exists) fork o xs new at′ enough′ holds′)
 
       -- the entry stands where it stood
       pub grown-stands : (l : List ℕ) → l ≡ grownBase f image g new o xs → Stands l e

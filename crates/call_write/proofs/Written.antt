@@ -27,20 +27,20 @@ write-fits name fork offset bytes changed letters o content d = (letters, o, con
 module _ {f : VolumeFacts} {image name : List ℕ} {fork : Fork} {offset : ℕ} {e : EntryAt} {g : ForkFacts}
     (r : Readable f image) (h : ChangeableFork image name fork offset e g) where
   -- 17 or 0
-  number-is : (bytes : List ℕ) (new : NeededBlocks) → Grows f g offset (length bytes) new → behindOffset image name fork offset bytes ≡ new .number
+  number-is : (bytes : List ℕ) (needed : NeededBlocks) → Grows f g offset (length bytes) needed → behindOffset image name fork offset bytes ≡ needed .number
   unfolding neededBlocks
-  number-is bytes new w =
+  number-is bytes needed w =
       let n = rw (r .facts, changed-fork-is r h) at (w .number) in
       sym n
 
   module _ (octets : Bytes image) {bytes : List ℕ} {changed : ℕ} (fits : Fits (write name fork offset bytes changed))
-      (new : NeededBlocks) (w : Grows f g offset (length bytes) new) where
-    pub write-full : (new .number ≡ 0 → ⊥) → Does (write name fork offset bytes changed) image (toldNumber (new .number)) image
-    write-full z = refused-own r octets write-changing fits (h .file) (not-beyond r h) (number-is bytes new w) z
+      (needed : NeededBlocks) (w : Grows f g offset (length bytes) needed) where
+    pub write-full : (needed .number ≡ 0 → ⊥) → Does (write name fork offset bytes changed) image (toldNumber (needed .number)) image
+    write-full z = refused-own r octets write-changing fits (h .file) (not-beyond r h) (number-is bytes needed w) z
 
-    pub write-served : new .number ≡ 0 → {after : List ℕ} → Written f image e fork g offset bytes changed after
+    pub write-served : needed .number ≡ 0 → {after : List ℕ} → Written f image e fork g offset bytes changed after
         → Does (write name fork offset bytes changed) image (toldNumber 0) after
     unfolding change
     write-served z p =
-        done r octets write-changing fits (h .file) (not-beyond r h) (number-is bytes new w ∙ z)
+        done r octets write-changing fits (h .file) (not-beyond r h) (number-is bytes needed w ∙ z)
         (p (changed-fork-at r h .held) ∙ (λ i. written (r .facts i) image name fork offset bytes changed (changed-fork-is r h i)))

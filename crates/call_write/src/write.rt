@@ -30,7 +30,7 @@ pub fn serve_write(
             if needed.number != 0 {
                 return needed.number;
             }
-            let taken = taken_blocks(f, g, needed.blocks);
+            let taken = taken_blocks(f, g, f.free_blocks, needed.blocks);
             crate::grow::grow_fork(image, f, e, fork, g, taken, at, bytes, changed);
             0
         }

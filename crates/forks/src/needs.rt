@@ -1,7 +1,7 @@
 // The blocks that a fork needs, and those that a write takes. No sum wraps, whatever is asked.
 ghost use mathlib.Core.Path.{_≡_};
 ghost use Prim.Native.Nat.{_+_, _≤_, max};
-ghost use Rattle.model.specs.Facts.{clump, freeCount};
+ghost use Rattle.model.specs.Facts.{clump};
 ghost use Rattle.model.specs.Directory.{blockCount};
 ghost use Rattle.model.specs.Calls.{fewest, taken};
 ghost use Rattle.forks.specs.Growth.{Grows};
@@ -85,10 +85,11 @@ fn clump_blocks(f: VolumeFacts) -> u32
     f.clump_size / f.block_size
 }
 
-// The new blocks that a write takes which needs so many: with them the fork has whole clumps, or just those where fewer are free.
-pub fn taken_blocks(f: VolumeFacts, g: ForkFacts, need: u16) -> u16
+// The new blocks that a write to the fork g takes which needs so many: none for none; those that make whole clumps of all its blocks,
+// if so many are free; else just those needed.
+pub fn taken_blocks(f: VolumeFacts, g: ForkFacts, free: u16, need: u16) -> u16
     requires { ⌜ 512 ≤ f .«block_size» ⌝ }
-    ensures { λ r. ⌜ r ≡ taken (clump f) (freeCount f) (blockCount (f .«block_size») g) need ⌝ }
+    ensures { λ r. ⌜ r ≡ taken (clump f) free (blockCount (f .«block_size») g) need ⌝ }
 {
     if need == 0 {
         return 0;
@@ -97,7 +98,7 @@ pub fn taken_blocks(f: VolumeFacts, g: ForkFacts, need: u16) -> u16
     let clump = clump_blocks(f) as usize;
     let whole = blocks_for(has + need as usize, clump) * clump;
     let more = whole - has;
-    if (f.free_blocks as usize) < more {
+    if (free as usize) < more {
         return need;
     }
     more as u16

@@ -13,7 +13,7 @@ use Rattle.model.specs.Directory.{blockCount}
 use Rattle.model.specs.Check.{Accepted}
 use Rattle.model.specs.Calls.{fewest, grown, needed, neededBlocks, rounded, taken, takenBlocks, forkBytes, refusal, Fits}
 use Rattle.model.specs.Calls.Call.{write}
-use Rattle.history.specs.History.{History, freeOf, heldIn, holding, risen, writes, changedFork, onCalled, moves}
+use Rattle.history.specs.History.{History, freeOf, heldIn, holding, countAfter, writes, changedFork, onCalled, moves}
 use Rattle.history.specs.History.{namedBlocks, blocksNamed, OnlyNamed, Agrees}
 use Rattle.model.specs.declared.VolumeFacts.{VolumeFacts}
 use Rattle.model.specs.declared.ForkFacts.{ForkFacts}
@@ -33,13 +33,13 @@ use Rattle.history.proofs.Rewrites.{rewrite-agrees, rewrite-kept, named
 use Rattle.history.proofs.Joined.{Done}
 
 -- a fork of count blocks that holds all in least has, with those that a write takes, the history's count
-rises : (c : ℕ) → 0 < c → (free count least : ℕ) → count + taken c free count (least - count) ≡ risen c free count least
-unfolding risen rounded
+rises : (c : ℕ) → 0 < c → (free count least : ℕ) → count + taken c free count (least - count) ≡ countAfter c free count least
+unfolding countAfter rounded
 rises c pos free count least =
     elim (decLe least count) [
       | yes h ↦
           let none : least - count ≡ 0 = omega arith in
-          rw (le-leb least count h) (omega (arith, ap (taken c free count) none, taken-none c pos free count))
+          rw (le-leb least count h) (omega (arith, ap (taken c free count) none, taken-none c free count))
       | no h ↦
           let all : count + (least - count) ≡ least = omega arith in
           let more : rounded c (count + (least - count)) ≡ fewest least c * c = ap (λ (k : ℕ). fewest k c * c) all in
@@ -47,10 +47,10 @@ rises c pos free count least =
           elim (decLe (fewest least c * c) (count + free)) [
             | yes k ↦
                 rw (lt-leb least count (omega arith), le-leb (fewest least c * c) (count + free) k)
-                (omega (arith, more, holds, taken-whole c pos free count (least - count) (omega arith) (omega (arith, more))))
+                (omega (arith, more, holds, taken-whole c free count (least - count) (omega arith) (omega (arith, more))))
             | no k ↦
                 rw (lt-leb least count (omega arith), lt-leb (fewest least c * c) (count + free) (omega arith))
-                (omega (arith, taken-exact c pos free count (least - count) (omega arith) (omega (arith, more))))
+                (omega (arith, taken-exact c free count (least - count) (omega arith) (omega (arith, more))))
           ]
     ]
 
@@ -72,23 +72,23 @@ module _ (image : List ℕ) (acc : Accepted image) (name : List ℕ) (fork : For
   r = write-rewrites image acc name fork o xs changed m
 
   -- the count rises by the blocks taken
-  risen-taken : blockCount (A f) was + takenBlocks f was o (length xs)
-      ≡ risen (clump f) (freeCount f) (blockCount (A f) was) (holding (A f) o xs (heldIn f image was))
+  count-after : blockCount (A f) was + takenBlocks f was o (length xs)
+      ≡ countAfter (clump f) (freeCount f) (blockCount (A f) was) (holding (A f) o xs (heldIn f image was))
   unfolding takenBlocks neededBlocks needed grown heldIn
-  risen-taken =
+  count-after =
       let bytes = forkBytes (S f) (A f) image was in
       let long = was-length image acc name fork o xs changed m in
       let size : max (was .logical) (o + length xs) ≡ length (overwritten bytes o xs) =
       ap (λ (k : ℕ). max k (o + length xs)) (sym long)
       ∙ sym (length-overwritten bytes o xs (omega (arith, long, was-within image acc name fork o xs changed m))) in
       rises (clump f) (clump-some f (area image acc .some)) (freeCount f) (blockCount (A f) was) (fewest (max (was .logical) (o + length xs)) (A f))
-      ∙ ap (λ (n : ℕ). risen (clump f) (freeCount f) (blockCount (A f) was) (fewest n (A f))) size
+      ∙ ap (λ (n : ℕ). countAfter (clump f) (freeCount f) (blockCount (A f) was) (fewest n (A f))) size
 
   own : heldIn f after (forkWith (A f) (sizeAfter was o xs) now) ≡ writes (A f) (clump f) (freeCount f) o xs (heldIn f image was)
   unfolding heldIn writes
   own =
       let bytes = now-bytes image acc name fork o xs changed m in
-      let count = now-many image acc name fork o xs changed m ∙ risen-taken in
+      let count = now-many image acc name fork o xs changed m ∙ count-after in
       λ i. record { bytes = bytes i; count = count i }
 
   pub write-agrees : (h : History) → Agrees image h → Agrees after (moves h (write name fork o xs changed))

@@ -117,20 +117,20 @@ newFile number name finder created changed = record {
 abbrev pub holding : ℕ → ℕ → List ℕ → Held → ℕ
 holding a o xs g = fewest (length (overwritten (g .bytes) o xs)) a
 
--- The count becomes the larger of itself and these; the rise is the new blocks needed, before rounding.
+-- The rise of the count to the larger of itself and these is the new blocks needed: 17 asks for it, before rounding.
 unfoldable pub rise : ℕ → ℕ → List ℕ → Held → ℕ
 rise a o xs g = max (g .count) (holding a o xs g) - g .count
 
 -- The history counts the rounded blocks (document 02, T-07): a count below the fewest becomes these, rounded up to whole clumps of c
 -- blocks if enough are free for that.
-unfoldable pub risen : ℕ → ℕ → ℕ → ℕ → ℕ
-risen c free count least =
+unfoldable pub countAfter : ℕ → ℕ → ℕ → ℕ → ℕ
+countAfter c free count least =
     let whole = fewest least c * c in
     cond (leb least count) count (cond (leb whole (count + free)) whole least)
 
 -- Write keeps the bytes before o, puts the n given, keeps those from o+n on.
 unfoldable pub writes : ℕ → ℕ → ℕ → ℕ → List ℕ → Held → Held
-writes a c free o xs g = record { bytes = overwritten (g .bytes) o xs; count = risen c free (g .count) (holding a o xs g) }
+writes a c free o xs g = record { bytes = overwritten (g .bytes) o xs; count = countAfter c free (g .count) (holding a o xs g) }
 
 -- Cut keeps the first n bytes and the fewest blocks for them.
 unfoldable pub cuts : ℕ → ℕ → Held → Held

@@ -15,7 +15,7 @@ use Rattle.model.specs.Map.{mapEntry, freeBlocks, putChain, putFree}
 use Rattle.model.specs.Directory.{entrySize, endsAt, nextPlace, readAt, entries, readEnd, cutBlocks, directoryBlocks, listing, directory}
 use Rattle.model.specs.Directory.{forkPlace, forkOf, forksIn, blockCount, forkBlocks, named}
 use Rattle.model.specs.Check.{SoundFork, Accepted}
-use Rattle.model.specs.Calls.{fewest, grown, needed, neededBlocks, takenBlocks, entryNamed, hasRoom, putContent, filled, dateAndName, newEntry}
+use Rattle.model.specs.Calls.{fewest, grown, takenBlocks, entryNamed, hasRoom, putContent, filled, dateAndName, newEntry}
 use Rattle.model.specs.Calls.{placed, removedIn, removed, onNamed, rewrittenIn, rewritten, withFork, withDirectory, withFiles, withNext, withFree}
 use Rattle.model.specs.Calls.{created, written, shortened, deleted, sameSize, retitled, renamedIn, renamed, change, Fits}
 use Rattle.model.specs.Calls.Call.{create, write, cut, delete, rename}
@@ -29,7 +29,7 @@ use Rattle.laws.proofs.Chains.{length-forkBlocks, good}
 use Rattle.laws.proofs.Free.{times-take, free-in}
 use Rattle.laws.proofs.Joins.{InMap, in-map-head}
 use Rattle.laws.proofs.Content.{fewest-holds}
-use Rattle.laws.proofs.Counts.{taken-are-free}
+use Rattle.laws.proofs.Counts.{needed-hold, taken-are-free}
 use Rattle.laws.proofs.MapChecks.{blockCounts, all-blocks}
 use Rattle.laws.proofs.Octets.{Octets, octets, bytes, octets-take, octets-drop, octets-cons, octets-append, octets-zeros}
 use Rattle.laws.proofs.Octets.{octets-u16, octets-u32, bytes-be32}
@@ -245,10 +245,6 @@ in-both : (n : ℕ) (bs cs : List ℕ) → InMap n bs → InMap n cs → InMap n
 in-both n bs cs u w b p =
     elim (ℕ-discrete (times b bs) 0) [ yes z ↦ w b (omega (arith, times-append b bs cs)) | no z ↦ u b (omega arith) ]
 
-fewest-needed : (a logical blocks : ℕ) → fewest logical a ≤ blocks + needed a logical blocks
-unfolding needed
-fewest-needed a logical blocks = omega arith
-
 module _ (image : List ℕ) (acc : Accepted image) where
   abbrev f : VolumeFacts
   f = factsOf image
@@ -347,14 +343,14 @@ written-low image acc name fork o count may =
     let f = factsOf image in
     let g = forkOf fork (entryNamed name image) in
     let size = grown (g .logical) o count in
-    let need = fewest-needed (A f) size (blockCount (A f) g) in
+    let need = needed-hold f g o count in
     let fit = size-fits image acc (fewest size (A f))
     (omega (arith, named-count image acc name (may .file .exists) fork, length-forkBlocks (mapEntry image) (A f) g, may .room)) in
     omega (arith, fewest-holds size (A f) (omega (arith, acc .facts .layout .large)))
 
 pub written-bytes : (image : List ℕ) → Accepted image → Bytes image → (name : List ℕ) (fork : Fork) (offset : ℕ) (bytes : List ℕ) (changed : ℕ)
     → Fits (write name fork offset bytes changed) → MayWrite image name fork offset (length bytes) → Bytes (change (write name fork offset bytes changed) image)
-unfolding change written Fits neededBlocks
+unfolding change written Fits
 written-bytes image acc h name fork o xs changed fits may =
     let f = factsOf image in
     let g = forkOf fork (entryNamed name image) in

@@ -6,7 +6,7 @@ use native.Mathlib.Omega.{arith}
 use native.Mathlib.Decide.{ℕ-discrete, decLe}
 use native.Mathlib.Nat.{mul-le-mul-right, div-add-mod', le-div-iff-mul-le}
 use borrow.Author.Tests.{eq-eqb, ne-eqb, le-leb, lt-leb}
-use Rattle.model.specs.Facts.{A, clump, freeCount}
+use Rattle.model.specs.Facts.{A, clump, nextNumber, freeCount, withCounts}
 use Rattle.model.specs.Directory.{blockCount}
 use Rattle.model.specs.Calls.{fewest, grown, needed, neededBlocks, rounded, taken, takenBlocks}
 use Rattle.model.specs.declared.VolumeFacts.{VolumeFacts}
@@ -24,21 +24,30 @@ pub grown-then : (l o x y : ℕ) → grown (grown l o x) (o + x) y ≡ grown l o
 unfolding grown
 grown-then l o x y = omega arith
 
--- ---- the blocks needed, where A is a and the fork has count blocks
+-- ---- the blocks needed by a write of n bytes at o in the fork g
 
-module _ (a l o x y count : ℕ) where
-  -- by the first part no more
-  pub needed-less : 0 < a → needed a (grown l o x) count ≤ needed a (grown l o (x + y)) count
-  unfolding needed grown
+-- with them the fork has the fewest blocks that hold the bytes, or more
+pub needed-hold : (f : VolumeFacts) (g : ForkFacts) (o n : ℕ) → fewest (grown (g .logical) o n) (A f) ≤ blockCount (A f) g + neededBlocks f g o n
+unfolding neededBlocks needed
+needed-hold f g o n = omega arith
+
+-- of x bytes at o, and of y bytes behind them
+module _ (f : VolumeFacts) (g : ForkFacts) (o x y : ℕ) where
+  -- by the first part no more than by both at once
+  pub needed-less : 0 < A f → neededBlocks f g o x ≤ neededBlocks f g o (x + y)
+  unfolding neededBlocks needed grown
   needed-less pos =
-      let p = max l (o + x) in
-      let q = max l (o + (x + y)) in
-      omega (arith, fewest-least p a (fewest q a) pos (omega (arith, fewest-holds q a pos)))
+      let p = max (g .logical) (o + x) in
+      let q = max (g .logical) (o + (x + y)) in
+      omega (arith, fewest-least p (A f) (fewest q (A f)) pos (omega (arith, fewest-holds q (A f) pos)))
 
-  -- by the second the others, where the first took t
-  pub needed-then : (t : ℕ) → needed a (grown (grown l o x) (o + x) y) (count + t) ≡ needed a (grown l o (x + y)) count - t
-  unfolding needed
-  needed-then t = rw (grown-then l o x y) (omega arith)
+  -- by the second the others, where the first took t and left the fork h; counts of the volume do not matter
+  pub needed-then : (files next free t : ℕ) (h : ForkFacts) → h .logical ≡ grown (g .logical) o x → blockCount (A f) h ≡ blockCount (A f) g + t
+      → neededBlocks (withCounts f files next free) h (o + x) y ≡ neededBlocks f g o (x + y) - t
+  unfolding neededBlocks needed withCounts
+  needed-then files next free t h l k =
+      ap₂ (λ (m n : ℕ). fewest (grown m (o + x) y) (A f) - n) l k
+      ∙ ap (λ (m : ℕ). fewest m (A f) - (blockCount (A f) g + t)) (grown-then (g .logical) o x y) ∙ omega arith
 
 -- ---- the clump
 
@@ -65,7 +74,37 @@ module _ (f : VolumeFacts) where
         ]
       ]
 
--- ---- the blocks taken, where a clump has c blocks, the fork has count of them and free blocks are free
+-- ---- the blocks taken, where a clump has c blocks, the fork has count blocks and so many are free
+
+module _ (c free count : ℕ) where
+  pub taken-none : taken c free count 0 ≡ 0
+  unfolding taken
+  taken-none = refl
+
+  pub taken-whole : (need : ℕ) → 0 < need → rounded c (count + need) - count ≤ free → taken c free count need ≡ rounded c (count + need) - count
+  unfolding taken
+  taken-whole need h k = rw (ne-eqb need 0 (λ e. omega arith), le-leb (rounded c (count + need) - count) free k)
+
+  pub taken-exact : (need : ℕ) → 0 < need → free < rounded c (count + need) - count → taken c free count need ≡ need
+  unfolding taken
+  taken-exact need h k = rw (ne-eqb need 0 (λ e. omega arith), lt-leb (rounded c (count + need) - count) free k)
+
+  -- none, or to whole clumps where enough are free, or just those needed
+  by-taken : (P : ℕ → Type 0) (need : ℕ) → (need ≡ 0 → P 0)
+      → (0 < need → rounded c (count + need) - count ≤ free → P (rounded c (count + need) - count))
+      → (0 < need → free < rounded c (count + need) - count → P need) → P (taken c free count need)
+  by-taken P need none whole exact =
+      elim (ℕ-discrete need 0) [
+        | yes e ↦ rw (ap (taken c free count) e ∙ taken-none) (none e)
+        | no n ↦ elim (decLe (rounded c (count + need) - count) free) [
+          | yes k ↦ rw (taken-whole need (omega arith) k) (whole (omega arith) k)
+          | no k ↦ rw (taken-exact need (omega arith) (omega arith)) (exact (omega arith) (omega arith))
+        ]
+      ]
+
+-- t blocks are no more than a write takes that needs q, and behind them it takes the others
+abbrev Adds : ℕ → ℕ → ℕ → ℕ → ℕ → Type 0
+Adds c free count q t = (t ≤ taken c free count q) × (taken c (free - t) (count + t) (q - t) ≡ taken c free count q - t)
 
 module _ (c : ℕ) (pos : 0 < c) where
   pub rounded-holds : (q : ℕ) → q ≤ rounded c q
@@ -82,70 +121,41 @@ module _ (c : ℕ) (pos : 0 < c) where
   unfolding rounded
   rounded-least p q h = mul-le-mul-right {m = fewest q c} {n = fewest p c} c (fewest-least q c (fewest p c) pos h)
 
-  module _ (free count : ℕ) where
-    pub taken-none : taken c free count 0 ≡ 0
-    unfolding taken
-    taken-none = refl
-
-    pub taken-whole : (need : ℕ) → 0 < need → rounded c (count + need) - count ≤ free → taken c free count need ≡ rounded c (count + need) - count
-    unfolding taken
-    taken-whole need h k = rw (ne-eqb need 0 (λ e. omega arith), le-leb (rounded c (count + need) - count) free k)
-
-    pub taken-exact : (need : ℕ) → 0 < need → free < rounded c (count + need) - count → taken c free count need ≡ need
-    unfolding taken
-    taken-exact need h k = rw (ne-eqb need 0 (λ e. omega arith), lt-leb (rounded c (count + need) - count) free k)
-
-    -- none, or to whole clumps where enough are free, or just those needed
-    module _ (P : ℕ → Type 0) (need : ℕ) (none : need ≡ 0 → P 0)
-        (whole : 0 < need → rounded c (count + need) - count ≤ free → P (rounded c (count + need) - count))
-        (exact : 0 < need → free < rounded c (count + need) - count → P need) where
-      by-taken : P (taken c free count need)
-      by-taken =
-          elim (ℕ-discrete need 0) [
-            | yes e ↦ rw (ap (taken c free count) e ∙ taken-none) (none e)
-            | no n ↦ elim (decLe (rounded c (count + need) - count) free) [
-              | yes k ↦ rw (taken-whole need (omega arith) k) (whole (omega arith) k)
-              | no k ↦ rw (taken-exact need (omega arith) (omega arith)) (exact (omega arith) (omega arith))
-            ]
-          ]
-
+  module _ (free count need : ℕ) where
     -- no more than are free, and no fewer than are needed
-    taken-free : (need : ℕ) → need ≤ free → taken c free count need ≤ free
-    taken-free need h = by-taken (λ t. t ≤ free) need (λ e. omega arith) (λ n k. k) (λ n k. h)
+    taken-free : need ≤ free → taken c free count need ≤ free
+    taken-free h = by-taken c free count (λ t. t ≤ free) need (λ e. omega arith) (λ n k. k) (λ n k. h)
 
-    taken-enough : (need : ℕ) → need ≤ taken c free count need
-    taken-enough need =
-        by-taken (λ t. need ≤ t) need (λ e. omega arith) (λ n k. omega (arith, rounded-holds (count + need))) (λ n k. omega arith)
+    taken-enough : need ≤ taken c free count need
+    taken-enough =
+        by-taken c free count (λ t. need ≤ t) need (λ e. omega arith) (λ n k. omega (arith, rounded-holds (count + need))) (λ n k. omega arith)
 
-  -- a first part that needs p blocks, and a whole that needs q
+  -- a first part that needs p blocks, and both parts at once, which need q
   module _ (free count p q : ℕ) (less : p ≤ q) (room : q ≤ free) where
-    -- the first takes no more than the whole, and the second then the others
-    abbrev Adds : ℕ → Type 0
-    Adds t = (t ≤ taken c free count q) × (taken c (free - t) (count + t) (q - t) ≡ taken c free count q - t)
-
     -- the second part, where the first took t
     module _ (t : ℕ) (some : t < q) where
-      whole-same : count + t + (q - t) ≡ count + q
-      whole-same = omega arith
+      rounded-same : rounded c (count + t + (q - t)) ≡ rounded c (count + q)
+      rounded-same = ap (rounded c) (omega arith)
 
       rest-whole : t ≤ free → rounded c (count + q) - count ≤ free → taken c (free - t) (count + t) (q - t) ≡ rounded c (count + q) - (count + t)
       rest-whole h k =
-          let e = ap (λ (n : ℕ). rounded c n - (count + t)) whole-same in
-          taken-whole (free - t) (count + t) (q - t) (omega arith) (omega arith) ∙ e
+          taken-whole c (free - t) (count + t) (q - t) (omega arith) (omega (arith, rounded-same)) ∙ ap (λ (n : ℕ). n - (count + t)) rounded-same
 
       rest-exact : free < rounded c (count + q) - count → taken c (free - t) (count + t) (q - t) ≡ q - t
-      rest-exact k =
-          let e = ap (λ (n : ℕ). rounded c n - (count + t)) whole-same in
-          taken-exact (free - t) (count + t) (q - t) (omega arith) (omega arith)
+      rest-exact k = taken-exact c (free - t) (count + t) (q - t) (omega arith) (omega (arith, rounded-same))
 
-    first-none : p ≡ 0 → Adds 0
+    -- and where the first took all
+    rest-none : (t : ℕ) → q ≤ t → taken c (free - t) (count + t) (q - t) ≡ 0
+    rest-none t h = let z : q - t ≡ 0 = omega arith in ap (taken c (free - t) (count + t)) z ∙ taken-none c (free - t) (count + t)
+
+    first-none : p ≡ 0 → Adds c free count q 0
     first-none h =
         let e : count + 0 ≡ count = omega arith in
         let k : free - 0 ≡ free = omega arith in
         let n : q - 0 ≡ q = omega arith in
         (omega arith, rw (e, k, n) (omega arith))
 
-    first-whole : 0 < p → rounded c (count + p) - count ≤ free → Adds (rounded c (count + p) - count)
+    first-whole : 0 < p → rounded c (count + p) - count ≤ free → Adds c free count q (rounded c (count + p) - count)
     first-whole h k =
         let t = rounded c (count + p) - count in
         let lp = rounded-holds (count + p) in
@@ -154,30 +164,28 @@ module _ (c : ℕ) (pos : 0 < c) where
           | yes i ↦
               let m = rounded-least (count + p) (count + q) (omega arith) in
               let n = rounded-least (count + q) (count + p) (omega arith) in
-              let w = taken-whole free count q (omega arith) (omega arith) in
-              let z : q - t ≡ 0 = omega arith in
-              (omega arith, ap (taken c (free - t) (count + t)) z ∙ taken-none (free - t) (count + t) ∙ omega arith)
+              let w = taken-whole c free count q (omega arith) (omega arith) in
+              (omega arith, rest-none t i ∙ omega arith)
           | no i ↦ elim (decLe (rounded c (count + q) - count) free) [
-            | yes j ↦ let w = taken-whole free count q (omega arith) j in (omega arith, rest-whole t (omega arith) k j ∙ omega arith)
-            | no j ↦ let w = taken-exact free count q (omega arith) (omega arith) in (omega arith, rest-exact t (omega arith) (omega arith) ∙ omega arith)
+            | yes j ↦ let w = taken-whole c free count q (omega arith) j in (omega arith, rest-whole t (omega arith) k j ∙ omega arith)
+            | no j ↦
+                let w = taken-exact c free count q (omega arith) (omega arith) in
+                (omega arith, rest-exact t (omega arith) (omega arith) ∙ omega arith)
           ]
         ]
 
-    first-exact : 0 < p → free < rounded c (count + p) - count → Adds p
+    first-exact : 0 < p → free < rounded c (count + p) - count → Adds c free count q p
     first-exact h k =
         let lq = rounded-holds (count + q) in
         let m = rounded-least (count + q) (count + p) (omega arith) in
-        let w = taken-exact free count q (omega arith) (omega arith) in
+        let w = taken-exact c free count q (omega arith) (omega arith) in
         elim (decLe q p) [
-          | yes i ↦
-              let z : q - p ≡ 0 = omega arith in
-              (omega arith, ap (taken c (free - p) (count + p)) z ∙ taken-none (free - p) (count + p) ∙ omega arith)
+          | yes i ↦ (omega arith, rest-none p i ∙ omega arith)
           | no i ↦ (omega arith, rest-exact p (omega arith) (omega arith) ∙ omega arith)
         ]
 
-    pub taken-then : (taken c free count p ≤ taken c free count q)
-        × (taken c (free - taken c free count p) (count + taken c free count p) (q - taken c free count p) ≡ taken c free count q - taken c free count p)
-    taken-then = by-taken free count Adds p first-none first-whole first-exact
+    parts-add : Adds c free count q (taken c free count p)
+    parts-add = by-taken c free count (Adds c free count q) p first-none first-whole first-exact
 
 -- ---- of a write of n bytes at o in the fork g
 
@@ -189,7 +197,7 @@ module _ (f : VolumeFacts) (g : ForkFacts) (o n : ℕ) (pos : 0 < A f) where
 
   -- with them the fork holds the bytes
   pub taken-hold : grown (g .logical) o n ≤ (blockCount (A f) g + takenBlocks f g o n) * A f
-  unfolding takenBlocks neededBlocks needed
+  unfolding takenBlocks
   taken-hold =
       let size = grown (g .logical) o n in
       let has = blockCount (A f) g in
@@ -197,36 +205,30 @@ module _ (f : VolumeFacts) (g : ForkFacts) (o n : ℕ) (pos : 0 < A f) where
       omega (
         arith,
         fewest-holds size (A f) pos,
-        mul-le-mul-right {m = fewest size (A f)} {n = has + takenBlocks f g o n} (A f) (omega (arith, enough)),
+        mul-le-mul-right {m = fewest size (A f)} {n = has + takenBlocks f g o n} (A f) (omega (arith, enough, needed-hold f g o n)),
       )
 
 -- ---- of a write of x bytes at o in the fork g, and of y bytes behind them
 
 module _ (f : VolumeFacts) (g : ForkFacts) (o x y : ℕ) (pos : 0 < A f) (room : neededBlocks f g o (x + y) ≤ freeCount f) where
-  abbrev Then : Type 0
-  Then =
-      let t = takenBlocks f g o x in
-      (t ≤ takenBlocks f g o (x + y))
-      × (taken (clump f) (freeCount f - t) (blockCount (A f) g + t) (neededBlocks f g o (x + y) - t) ≡ takenBlocks f g o (x + y) - t)
-
-  both-taken : Then
-  unfolding takenBlocks neededBlocks
-  both-taken =
-      taken-then (clump f) (clump-some f pos) (freeCount f) (blockCount (A f) g) (neededBlocks f g o x) (neededBlocks f g o (x + y))
-      (needed-less (A f) (g .logical) o x y (blockCount (A f) g) pos) room
+  adds : Adds (clump f) (freeCount f) (blockCount (A f) g) (neededBlocks f g o (x + y)) (takenBlocks f g o x)
+  unfolding takenBlocks
+  adds =
+      parts-add (clump f) (clump-some f pos) (freeCount f) (blockCount (A f) g) (neededBlocks f g o x) (neededBlocks f g o (x + y))
+      (needed-less f g o x y pos) room
 
   -- the first takes no more than both at once
   pub first-less : takenBlocks f g o x ≤ takenBlocks f g o (x + y)
-  first-less = both-taken .0
+  unfolding takenBlocks
+  first-less = adds .0
 
-  -- the second takes the others, where the first left the fork h and so many blocks free
+  -- the second takes the others, where the first left the fork h and so many fewer blocks free
   pub second-others : (h : ForkFacts) → h .logical ≡ grown (g .logical) o x → blockCount (A f) h ≡ blockCount (A f) g + takenBlocks f g o x
-      → taken (clump f) (freeCount f - takenBlocks f g o x) (blockCount (A f) h) (neededBlocks f h (o + x) y)
+      → takenBlocks (withCounts f (f .files) (nextNumber f) (freeCount f - takenBlocks f g o x)) h (o + x) y
       ≡ takenBlocks f g o (x + y) - takenBlocks f g o x
-  unfolding neededBlocks
+  unfolding takenBlocks withCounts clump
   second-others h l k =
       let t = takenBlocks f g o x in
-      let has = blockCount (A f) g in
-      ap₂ (λ (n m : ℕ). taken (clump f) (freeCount f - t) n (needed (A f) (grown m (o + x) y) n)) k l
-      ∙ ap (taken (clump f) (freeCount f - t) (has + t)) (needed-then (A f) (g .logical) o x y has t)
-      ∙ both-taken .1
+      ap₂ (λ (n q : ℕ). taken (clump f) (freeCount f - t) n q) k
+      (needed-then f g o x y (f .files) (nextNumber f) (freeCount f - t) t h l k)
+      ∙ adds .1

@@ -191,11 +191,11 @@ abbrev pub deleteFreed : List ℕ → List ℕ → List ℕ
 deleteFreed image e = forkBlocks (mapEntry image) (A (factsOf image)) (forkOf Data e) ++ forkBlocks (mapEntry image) (A (factsOf image)) (forkOf Resource e)
 
 -- the number of blocks that a write takes, and all blocks of fork g then
-abbrev pub writeNew : List ℕ → ℕ → List ℕ → ForkFacts → ℕ
-writeNew image o xs g = takenBlocks (factsOf image) g o (length xs)
+abbrev pub writeMany : List ℕ → ℕ → List ℕ → ForkFacts → ℕ
+writeMany image o xs g = takenBlocks (factsOf image) g o (length xs)
 
 abbrev pub writeAll : List ℕ → ℕ → List ℕ → ForkFacts → List ℕ
-writeAll image o xs g = blocksAfter (mapEntry image) (N (factsOf image)) (A (factsOf image)) g (writeNew image o xs g)
+writeAll image o xs g = blocksAfter (mapEntry image) (N (factsOf image)) (A (factsOf image)) g (writeMany image o xs g)
 
 -- the blocks of fork g that a cut to n keeps and frees
 abbrev pub cutKept : List ℕ → ℕ → ForkFacts → List ℕ
@@ -206,7 +206,7 @@ cutFreed image n g = drop (fewest n (A (factsOf image))) (forkBlocks (mapEntry i
 
 -- the images before the directory's stores
 abbrev pub writeBase : List ℕ → ℕ → List ℕ → ForkFacts → List ℕ
-writeBase image o xs g = afterWrite (S (factsOf image)) (A (factsOf image)) (N (factsOf image)) image g (writeNew image o xs g) o xs
+writeBase image o xs g = afterWrite (S (factsOf image)) (A (factsOf image)) (N (factsOf image)) image g (writeMany image o xs g) o xs
 
 abbrev pub cutBase : List ℕ → ℕ → ForkFacts → List ℕ
 cutBase image n g = putFree (putChain image (cutKept image n g)) (cutFreed image n g)
@@ -218,11 +218,11 @@ module _ (image : List ℕ) (r : ReadableDirectory image) (name : List ℕ) (h :
   pub written-step : (fork : Fork) (o : ℕ) (xs : List ℕ) (changed : ℕ) (g : ForkFacts) → Based image (writeBase image o xs g)
       → DirectoryStored image (writeBase image o xs g)
       (map (onNamed name (withFork fork (A (factsOf image)) (sizeAfter g o xs) (writeAll image o xs g) changed)) (directory image))
-      (factsOf image .files) (nextNumber (factsOf image)) (freeCount (factsOf image) - writeNew image o xs g)
+      (factsOf image .files) (nextNumber (factsOf image)) (freeCount (factsOf image) - writeMany image o xs g)
       (written (factsOf image) image name fork o xs changed g)
   unfolding written
   written-step fork o xs changed g b =
-      rewrite-step image r (writeBase image o xs g) b name h (freeCount (factsOf image) - writeNew image o xs g)
+      rewrite-step image r (writeBase image o xs g) b name h (freeCount (factsOf image) - writeMany image o xs g)
       (withFork fork (A (factsOf image)) (sizeAfter g o xs) (writeAll image o xs g) changed)
       (fork-keeps fork (A (factsOf image)) (sizeAfter g o xs) (writeAll image o xs g) changed)
 

@@ -269,10 +269,10 @@ abbrev pub sizeAfter : ForkFacts → ℕ → List ℕ → ℕ
 sizeAfter g o xs = grown (g .logical) o (length xs)
 
 abbrev pub blocksAfter : (ℕ → ℕ) → ℕ → ℕ → ForkFacts → ℕ → List ℕ
-blocksAfter e n a g new = forkBlocks e a g ++ take new (freeBlocks e n)
+blocksAfter e n a g many = forkBlocks e a g ++ take many (freeBlocks e n)
 
 abbrev pub afterWrite : LogicalBlock → ℕ → ℕ → List ℕ → ForkFacts → ℕ → ℕ → List ℕ → List ℕ
-afterWrite s a n l g new o xs = putContent s a (putChain l (blocksAfter (mapEntry l) n a g new)) (blocksAfter (mapEntry l) n a g new) o xs
+afterWrite s a n l g many o xs = putContent s a (putChain l (blocksAfter (mapEntry l) n a g many)) (blocksAfter (mapEntry l) n a g many) o xs
 
 -- cut of the fork g to m bytes: the blocks that it keeps, those that become free, and the map then
 abbrev pub keptBlocks : (ℕ → ℕ) → ℕ → ForkFacts → ℕ → List ℕ
@@ -318,7 +318,7 @@ module _ (s : LogicalBlock) (a n free : ℕ) (l : List ℕ) (ar : Area s a n l) 
         (omega (arith, length-bytes s a l old (inside s a n l ar l old refl old-in-map), old-fields .logical))
 
     -- write of xs at o that takes so many new blocks: these are free, and with them the fork holds its bytes
-    module _ (many o : ℕ) (xs : List ℕ) (at : o ≤ g .logical) (enough : many ≤ free) (large : sizeAfter g o xs ≤ (blockCount a g + many) * a) where
+    module _ (many o : ℕ) (xs : List ℕ) (at : o ≤ g .logical) (enough : many ≤ free) (holds : sizeAfter g o xs ≤ (blockCount a g + many) * a) where
       abbrev size : ℕ
       size = sizeAfter g o xs
 
@@ -335,7 +335,7 @@ module _ (s : LogicalBlock) (a n free : ℕ) (l : List ℕ) (ar : Area s a n l) 
       write-length = omega (arith, length-append old new, length-new, length-forkBlocks (mapEntry l) a g)
 
       pub write-holds : sizeAfter g o xs ≤ length (blocksAfter (mapEntry l) n a g many) * a
-      write-holds = rw write-length large
+      write-holds = rw write-length holds
 
       new-free : New n (ar .few) (mapEntry l) new
       new-free = lowest-free n (ar .few) (mapEntry l) many

@@ -1,7 +1,7 @@
 -- A write that is not refused, place by place, and what the next write then finds: the facts, the fork, its blocks, the free blocks, the
 -- directory, and the numbers that decide its refusals.
 use Prim.Native.Nat.{ℕ, _+_, _-_, _*_, _≤_, _<_}
-use mathlib.Core.Path.{_≡_, sym, ap, ap₂, subst, _∙_}
+use mathlib.Core.Path.{_≡_, refl, sym, ap, ap₂, subst, _∙_}
 use mathlib.Core.Bool.{true}
 use mathlib.Core.List.{List}
 use native.Mathlib.Omega.{arith}
@@ -13,9 +13,9 @@ use Rattle.model.specs.Lists.{any, flat, times}
 use Rattle.model.specs.Bytes.{byte, bytes16}
 use Rattle.model.specs.Facts.{factsOf, dirStart, dirLength, N, A, S, nextNumber, freeCount, isLocked, withCounts}
 use Rattle.model.specs.Map.{mapEntry, freeBlocks}
-use Rattle.model.specs.Directory.{directory, directoryBlocks, forkOf, forkBlocks, named, flagsLock, blockCount}
+use Rattle.model.specs.Directory.{directory, directoryBlocks, forkOf, forkBlocks, named, flagsLock}
 use Rattle.model.specs.Check.{Accepted}
-use Rattle.model.specs.Calls.{grown, needed, takenBlocks, entryNamed, onNamed, rewritten, withFork, withDirectory, withFree, written}
+use Rattle.model.specs.Calls.{neededBlocks, entryNamed, onNamed, rewritten, withFork, withDirectory, withFree, written}
 use Rattle.model.specs.declared.VolumeFacts.{VolumeFacts}
 use Rattle.model.specs.declared.ForkFacts.{ForkFacts}
 use Rattle.model.specs.declared.Fork.{Fork}
@@ -36,7 +36,7 @@ use Rattle.laws.proofs.Acceptance.{readable-of}
 use Rattle.laws.proofs.TheEntry.{theEntry, the-entry, the-fork, the-length}
 use Rattle.laws.proofs.Rewrites.{Rewritten, entry-now}
 use Rattle.laws.proofs.Writes.{its, all, free, base, frame, write-rewrites, now-stores, now-many, was-linked}
-use Rattle.laws.proofs.Writes.{left as leftBy}
+use Rattle.laws.proofs.Writes.{left as leftBy, many as manyBy}
 use Rattle.laws.proofs.Stored.{Stored}
 use Rattle.laws.proofs.Counts.{grown-end, needed-then}
 
@@ -55,8 +55,8 @@ module _ (image : List ℕ) (acc : Accepted image) (name : List ℕ) (fork : For
   abbrev size : ℕ
   size = sizeAfter g o xs
 
-  abbrev count : ℕ
-  count = takenBlocks f g o (length xs)
+  abbrev many : ℕ
+  many = manyBy image acc name fork o xs changed m
 
   abbrev after : List ℕ
   after = all image acc name fork o xs changed m
@@ -181,12 +181,12 @@ module _ (image : List ℕ) (acc : Accepted image) (name : List ℕ) (fork : For
   }
 
   -- the free blocks are those that the write did not take
-  pub left-free : freeBlocks (mapEntry left) (N f) ≡ drop count (freeBlocks (mapEntry image) (N f))
+  pub left-free : freeBlocks (mapEntry left) (N f) ≡ drop many (freeBlocks (mapEntry image) (N f))
   left-free =
       let old = forkBlocks (mapEntry image) (A f) g in
-      let new = take count (freeBlocks (mapEntry image) (N f)) in
+      let new = take many (freeBlocks (mapEntry image) (N f)) in
       let s = now-stores image acc name fork o xs changed m in
-      free-dropped (mapEntry image) (mapEntry left) (N f) count
+      free-dropped (mapEntry image) (mapEntry left) (N f) many
       (λ b q z. let u = linked-used (mapEntry left) (N f) after b (s .chain) (omega (arith, times-append b old new)) in omega (arith, u .some))
       (λ b low high z. elim (ℕ-discrete (times b old) 0) [
         | yes y ↦ ap (λ (v : ℕ). eqb v 0) (s .entries b low (omega (arith, acc .facts .layout .most)) (omega (arith, times-append b old new)))
@@ -205,15 +205,12 @@ module _ (image : List ℕ) (acc : Accepted image) (name : List ℕ) (fork : For
   pub left-within : o + length xs ≤ forkOf fork (entryNamed name left) .logical
   left-within = subst (λ (h : ForkFacts). o + length xs ≤ h .logical) (sym left-fork) (grown-end (g .logical) o (length xs))
 
-  pub left-count : freeCount (factsOf left) ≡ freeCount f - count
+  pub left-count : freeCount (factsOf left) ≡ freeCount f - many
   unfolding withCounts
   left-count = ap (λ (v : VolumeFacts). freeCount v) left-facts
 
-  pub left-needs : (z : ℕ) → needs left name fork (o + length xs) z ≡ needs image name fork o (length xs + z) - count
-  unfolding withCounts
+  pub left-needs : (z : ℕ) → needs left name fork (o + length xs) z ≡ needs image name fork o (length xs + z) - many
   left-needs z =
-      let need : ForkFacts → ℕ = λ h. needed (A f) (grown (h .logical) o (length xs + z)) (blockCount (A f) h) in
-      ap₂ (λ (v : VolumeFacts) (h : ForkFacts). needed (A v) (grown (h .logical) (o + length xs) z) (blockCount (A v) h)) left-facts left-fork
-      ∙ ap (needed (A f) (grown size (o + length xs) z)) (now-many image acc name fork o xs changed m)
-      ∙ needed-then (A f) (g .logical) o (length xs) z (blockCount (A f) g) count
-      ∙ ap (λ (h : ForkFacts). need h - count) (sym (the-fork image acc name (m .file .exists) fork))
+      ap₂ (λ (v : VolumeFacts) (h : ForkFacts). neededBlocks v h (o + length xs) z) left-facts left-fork
+      ∙ needed-then f g o (length xs) z (f .files) (nextNumber f) rest many (forkWith (A f) size after) refl (now-many image acc name fork o xs changed m)
+      ∙ ap (λ (h : ForkFacts). neededBlocks f h o (length xs + z) - many) (sym (the-fork image acc name (m .file .exists) fork))

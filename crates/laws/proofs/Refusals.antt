@@ -13,7 +13,8 @@ use Rattle.model.specs.Bytes.{byte}
 use Rattle.model.specs.Facts.{factsOf, A, nextNumber, freeCount, isLocked}
 use Rattle.model.specs.Directory.{padded, directoryBlocks, directory, forkOf, flagsLock, blockCount, named}
 use Rattle.model.specs.Check.{orElse, firstOf, verdict, Accepted}
-use Rattle.model.specs.Calls.{Call, Known, nameOf, forkGiven, grown, needed, badName, tooLong, checks, refuses, entryNamed, hasRoom, knownIn, refusal}
+use Rattle.model.specs.Calls.{Call, Known, nameOf, forkGiven, grown, needed, neededBlocks, badName, tooLong, checks, refuses, entryNamed, hasRoom}
+use Rattle.model.specs.Calls.{knownIn, refusal}
 use Rattle.model.specs.Calls.{sameSize, removed, change, after}
 use Rattle.model.specs.Calls.Call.{create, write, cut, delete, rename}
 use Rattle.model.specs.declared.Fork.{Fork}
@@ -165,12 +166,9 @@ pub record MayChangeFile (image name : List ℕ) : Type 0 where
   pub exists : any (named name) (directory image) ≡ true
   pub fileUnlocked : flagsLock (byte (entryNamed name image) 0) ≡ false
 
--- the new blocks that a write of count bytes needs, as its refusal 17 asks: `neededBlocks`, written out
+-- the new blocks that a write of count bytes needs, as its refusal 17 asks
 abbrev pub needs : List ℕ → List ℕ → Fork → ℕ → ℕ → ℕ
-needs image name fork offset count =
-    let a = A (factsOf image) in
-    let g = forkOf fork (entryNamed name image) in
-    needed a (grown (g .logical) offset count) (blockCount a g)
+needs image name fork offset count = neededBlocks (factsOf image) (forkOf fork (entryNamed name image)) offset count
 
 -- write: its room too
 pub record MayWrite (image name : List ℕ) (fork : Fork) (offset count : ℕ) : Type 0 where
@@ -239,7 +237,7 @@ module _ (image : List ℕ) where
 
   pub may-write : (name : List ℕ) (fork : Fork) (offset : ℕ) (bytes : List ℕ) (changed : ℕ)
       → refusal (write name fork offset bytes changed) image ≡ 0 → MayWrite image name fork offset (length bytes)
-  unfolding refuses knownIn nameOf forkGiven
+  unfolding refuses knownIn nameOf forkGiven neededBlocks
   may-write name fork offset bytes changed z =
       let f = factsOf image in
       let g = forkOf fork (entryNamed name image) in

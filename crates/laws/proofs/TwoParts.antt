@@ -9,9 +9,9 @@ use lib.ListN.{length, take, drop, length-append}
 use lib.Seq.{take-add}
 use Rattle.model.specs.Lists.{any, flat}
 use Rattle.model.specs.Bytes.{Bytes}
-use Rattle.model.specs.Facts.{factsOf, dirStart, dirLength, N, A, S, clump, nextNumber, freeCount, withCounts}
+use Rattle.model.specs.Facts.{factsOf, dirStart, dirLength, N, A, S, nextNumber, freeCount, withCounts}
 use Rattle.model.specs.Map.{mapEntry, freeBlocks}
-use Rattle.model.specs.Directory.{directory, directoryBlocks, forkOf, forkBlocks, named, blockCount}
+use Rattle.model.specs.Directory.{directory, directoryBlocks, forkOf, forkBlocks, named}
 use Rattle.model.specs.Check.{Accepted}
 use Rattle.model.specs.Calls.{grown, neededBlocks, takenBlocks, entryNamed, rewritten, withFork}
 use Rattle.model.specs.declared.LogicalBlock.{LogicalBlock}
@@ -26,7 +26,7 @@ use Rattle.laws.proofs.DirectorySteps.{clean-now}
 use Rattle.laws.proofs.Refusals.{MayWrite, needs}
 use Rattle.laws.proofs.Acceptance.{area, readable-of}
 use Rattle.laws.proofs.TheEntry.{the-fork}
-use Rattle.laws.proofs.Writes.{its, write-accepted, now-many, now-blocks, now-once, now-inside, now-holds}
+use Rattle.laws.proofs.Writes.{its, was-room, write-accepted, now-many, now-blocks, now-once, now-inside, now-holds}
 use Rattle.laws.proofs.Writes.{left as leftBy}
 use Rattle.laws.proofs.Twice.{fork-twice, rewritten-twice}
 use Rattle.laws.proofs.Stored.{Stored, stored-one, stored-then}
@@ -48,16 +48,14 @@ module _ (image : List ℕ) (acc : Accepted image) (name : List ℕ) (fork : For
   abbrev g : ForkFacts
   g = its image acc name fork o (xs ++ ys) changed m
 
-  -- the new blocks of the whole are enough, said of the two lengths
+  -- those that the whole needs are free, said of the two lengths
   whole-room : needs image name fork o (length xs + length ys) ≤ freeCount f
   whole-room = subst (λ (k : ℕ). needs image name fork o k ≤ freeCount f) (length-append xs ys) (m .room)
 
   -- ---- neither is refused
 
   pub first-room : needs image name fork o (length xs) ≤ freeCount (factsOf image)
-  first-room =
-      let h = forkOf fork (entryNamed name image) in
-      omega (arith, whole-room, needed-less (A f) (h .logical) o (length xs) (length ys) (blockCount (A f) h) (area image acc .some))
+  first-room = omega (arith, whole-room, needed-less f (forkOf fork (entryNamed name image)) o (length xs) (length ys) (area image acc .some))
 
   abbrev pub first-may : MayWrite image name fork o (length xs)
   first-may = record { file = m .file; within = m .within; room = first-room }
@@ -101,30 +99,30 @@ module _ (image : List ℕ) (acc : Accepted image) (name : List ℕ) (fork : For
   abbrev size₁ : ℕ
   size₁ = sizeAfter g o xs
 
-  abbrev count₁ : ℕ
-  count₁ = takenBlocks f g o (length xs)
+  abbrev many₁ : ℕ
+  many₁ = takenBlocks f g o (length xs)
 
   abbrev after₁ : List ℕ
-  after₁ = blocksAfter (mapEntry image) (N f) (A f) g count₁
+  after₁ = blocksAfter (mapEntry image) (N f) (A f) g many₁
 
   abbrev size : ℕ
   size = sizeAfter g o (xs ++ ys)
 
-  abbrev count : ℕ
-  count = takenBlocks f g o (length (xs ++ ys))
+  abbrev many : ℕ
+  many = takenBlocks f g o (length (xs ++ ys))
 
   abbrev after : List ℕ
-  after = blocksAfter (mapEntry image) (N f) (A f) g count
+  after = blocksAfter (mapEntry image) (N f) (A f) g many
 
   abbrev rows : List (List ℕ)
   rows = rewritten name (withFork fork (A f) size after changed) (directoryBlocks f image)
 
   -- the blocks that the second write takes
   abbrev rest : List ℕ
-  rest = take (count - count₁) (drop count₁ (freeBlocks (mapEntry image) (N f)))
+  rest = take (many - many₁) (drop many₁ (freeBlocks (mapEntry image) (N f)))
 
   abbrev now : VolumeFacts
-  now = withCounts f (f .files) (nextNumber f) (freeCount f - count₁)
+  now = withCounts f (f .files) (nextNumber f) (freeCount f - many₁)
 
   abbrev fork₁ : ForkFacts
   fork₁ = forkWith (A f) size₁ after₁
@@ -156,19 +154,16 @@ module _ (image : List ℕ) (acc : Accepted image) (name : List ℕ) (fork : For
 
   -- the room of the whole, said of the fork
   fork-room : neededBlocks f g o (length xs + length ys) ≤ freeCount f
-  unfolding neededBlocks
-  fork-room =
-      subst (λ (h : ForkFacts). neededBlocks f h o (length xs + length ys) ≤ freeCount f) (the-fork image acc name (m .file .exists) fork) whole-room
+  fork-room = subst (λ (k : ℕ). neededBlocks f g o k ≤ freeCount f) (length-append xs ys) (was-room image acc name fork o (xs ++ ys) changed m)
 
-  count-same : takenBlocks now fork₁ q (length ys) ≡ count - count₁
-  unfolding takenBlocks neededBlocks withCounts clump
-  count-same =
+  many-same : takenBlocks now fork₁ q (length ys) ≡ many - many₁
+  many-same =
       second-others f g o (length xs) (length ys) (area image acc .some) fork-room fork₁ refl (now-many image acc name fork o xs changed first-may)
-      ∙ ap (λ (k : ℕ). takenBlocks f g o k - count₁) (sym (length-append xs ys))
+      ∙ ap (λ (k : ℕ). takenBlocks f g o k - many₁) (sym (length-append xs ys))
 
-  count-less : count₁ ≤ count
-  count-less =
-      subst (λ (k : ℕ). count₁ ≤ takenBlocks f g o k) (sym (length-append xs ys))
+  many-less : many₁ ≤ many
+  many-less =
+      subst (λ (k : ℕ). many₁ ≤ takenBlocks f g o k) (sym (length-append xs ys))
       (first-less f g o (length xs) (length ys) (area image acc .some) fork-room)
 
   abbrev after₂ : List ℕ
@@ -177,15 +172,15 @@ module _ (image : List ℕ) (acc : Accepted image) (name : List ℕ) (fork : For
   blocks-second : after₂ ≡ after₁ ++ rest
   blocks-second =
       ap₂ (λ (u v : List ℕ). u ++ v) (now-blocks image acc name fork o xs changed first-may)
-      (ap₂ (λ (k : ℕ) (v : List ℕ). take k v) count-same (left-free image acc name fork o xs changed first-may))
+      (ap₂ (λ (k : ℕ) (v : List ℕ). take k v) many-same (left-free image acc name fork o xs changed first-may))
 
   blocks-whole : after ≡ after₁ ++ rest
   blocks-whole =
       let old = forkBlocks (mapEntry image) (A f) g in
       let free = freeBlocks (mapEntry image) (N f) in
-      let k : count ≡ count₁ + (count - count₁) = omega (arith, count-less) in
-      ap (λ (i : ℕ). old ++ take i free) k ∙ ap (λ (v : List ℕ). old ++ v) (take-add count₁ (count - count₁) free)
-      ∙ sym (append-assoc old (take count₁ free) rest)
+      let k : many ≡ many₁ + (many - many₁) = omega (arith, many-less) in
+      ap (λ (i : ℕ). old ++ take i free) k ∙ ap (λ (v : List ℕ). old ++ v) (take-add many₁ (many - many₁) free)
+      ∙ sym (append-assoc old (take many₁ free) rest)
 
   rows-same : flat (rewritten name (withFork fork (A f) (sizeAfter fork₁ q ys) after₂ changed) (directoryBlocks f mid)) ≡ flat rows
   rows-same =
@@ -197,12 +192,12 @@ module _ (image : List ℕ) (acc : Accepted image) (name : List ℕ) (fork : For
       ∙ ap flat (rewritten-twice name h₁ h (fork-keeps fork (A f) size₁ after₁ changed) (fork-twice fork (A f) size₁ size after₁ after changed changed)
       (directoryBlocks f image) (clean-now image (readable-of image acc)))
 
-  free-same : freeCount f - count₁ - takenBlocks now fork₁ q (length ys) ≡ freeCount f - count
-  free-same = omega (arith, count-same, count-less)
+  free-same : freeCount f - many₁ - takenBlocks now fork₁ q (length ys) ≡ freeCount f - many
+  free-same = omega (arith, many-same, many-less)
 
-  second : Stored (S f) (A f) (N f) (512 * dirStart f .0) (512 * dirLength f) mid left₂ (after₁ ++ rest) q ys (flat rows) (freeCount f - count)
+  second : Stored (S f) (A f) (N f) (512 * dirStart f .0) (512 * dirLength f) mid left₂ (after₁ ++ rest) q ys (flat rows) (freeCount f - many)
   unfolding withCounts directoryBlocks
-  second = cast (S f) (A f) (N f) (512 * dirStart f .0) (512 * dirLength f) mid left₂ _ (after₁ ++ rest) q ys _ (flat rows) _ (freeCount f - count)
+  second = cast (S f) (A f) (N f) (512 * dirStart f .0) (512 * dirLength f) mid left₂ _ (after₁ ++ rest) q ys _ (flat rows) _ (freeCount f - many)
       blocks-second rows-same free-same seen
 
   -- ---- the image
@@ -228,12 +223,12 @@ module _ (image : List ℕ) (acc : Accepted image) (name : List ℕ) (fork : For
 
   -- left by a write of both at o
   abbrev Both : List ℕ → List ℕ → Type 0
-  Both l bs = Stored (S f) (A f) (N f) (512 * dirStart f .0) (512 * dirLength f) image l bs o (xs ++ ys) (flat rows) (freeCount f - count)
+  Both l bs = Stored (S f) (A f) (N f) (512 * dirStart f .0) (512 * dirLength f) image l bs o (xs ++ ys) (flat rows) (freeCount f - many)
 
   both : Both left₂ (after₁ ++ rest)
   both =
       stored-then (S f) (A f) (N f) (512 * dirStart f .0) (512 * dirLength f) (area image acc .some) (area image acc .low) image mid left₂
-      after₁ rest o xs ys _ (flat rows) _ (freeCount f - count) in-image none-twice first-holds whole-holds
+      after₁ rest o xs ys _ (flat rows) _ (freeCount f - many) in-image none-twice first-holds whole-holds
       (write-stored image acc name fork o xs changed first-may) second
 
   whole : Both left (after₁ ++ rest)
@@ -242,4 +237,4 @@ module _ (image : List ℕ) (acc : Accepted image) (name : List ℕ) (fork : For
   pub two-parts : Bytes left₂ → Bytes left → left₂ ≡ left
   two-parts b₂ b =
       stored-one (S f) (A f) (N f) (512 * dirStart f .0) (512 * dirLength f) (area image acc .some) (area image acc .low) image left₂ left
-      (after₁ ++ rest) o (xs ++ ys) (flat rows) (freeCount f - count) in-image b₂ b both whole
+      (after₁ ++ rest) o (xs ++ ys) (flat rows) (freeCount f - many) in-image b₂ b both whole

@@ -14,7 +14,7 @@ use Rattle.model.specs.Map.{mapEntry}
 use Rattle.model.specs.Directory.{directory, forkOf, forksIn, named, flagsLock}
 use Rattle.model.specs.Check.{orElse, firstOf, verdict, from2, from3, from4, from5, from6, from7, from8, from9, Accepted}
 use Rattle.model.specs.Check.{fires1, fires2, fires3, fires4, fires5, fires6, fires7, fires8, fires9, fires10}
-use Rattle.model.specs.Calls.{nameOf, forkGiven, badName, checks, refuses, entryNamed, knownIn, refusal}
+use Rattle.model.specs.Calls.{nameOf, forkGiven, neededBlocks, badName, checks, refuses, entryNamed, knownIn, refusal}
 use Rattle.model.specs.Calls.Call.{write, cut}
 use Rattle.model.specs.declared.Fork.{Fork}
 use Rattle.model.proofs.Check.{accepted-verdict}
@@ -74,7 +74,7 @@ module _ (image name : List ℕ) (fork : Fork) (o changed : ℕ) where
   full count = ltb (freeCount (factsOf image)) (needs image name fork o count)
 
   as-cut : (xs : List ℕ) → refusal (write name fork o xs changed) image ≡ firstOf ahead (orElse (full (length xs)) 17 0)
-  unfolding refusal checks refuses knownIn nameOf forkGiven firstOf
+  unfolding refusal checks refuses knownIn nameOf forkGiven firstOf neededBlocks
   as-cut xs =
       let r = orElse (full (length xs)) 17 0 in
       first-then (verdict image) _ r _ (else-then (isLocked (factsOf image)) 10 _ r _ (else-then (badName name) 11 _ r _

@@ -41,14 +41,14 @@ module _ (image : List ℕ) (acc : Accepted image) (name : List ℕ) (fork : For
   abbrev pub its : ForkFacts
   its = forkOf fork (theEntry image acc name there)
 
-  abbrev pub count : ℕ
-  count = takenBlocks f its o (length xs)
+  abbrev pub many : ℕ
+  many = takenBlocks f its o (length xs)
 
   abbrev pub all : List ℕ
-  all = blocksAfter (mapEntry image) (N f) (A f) its count
+  all = blocksAfter (mapEntry image) (N f) (A f) its many
 
   abbrev pub free : ℕ
-  free = freeCount f - count
+  free = freeCount f - many
 
   abbrev pub left : List ℕ
   left = written f image name fork o xs changed its
@@ -60,25 +60,26 @@ module _ (image : List ℕ) (acc : Accepted image) (name : List ℕ) (fork : For
   unfolding change
   is-left = ap (written f image name fork o xs changed) (the-fork image acc name there fork)
 
-  pub was-within : o ≤ forkOf fork (theEntry image acc name (m .file .exists)) .logical
+  -- it begins within the fork, and the blocks that it needs are free
+  pub was-within : o ≤ its .logical
   was-within = subst (λ (g : ForkFacts). o ≤ g .logical) (the-fork image acc name there fork) (m .within)
 
-  -- the blocks taken are free, and the fork has room for its bytes
-  pub enough : takenBlocks (factsOf image) (forkOf fork (theEntry image acc name (m .file .exists))) o (length xs) ≤ freeCount (factsOf image)
-  unfolding neededBlocks
-  enough =
-      taken-are-free f its o (length xs) (area image acc .some)
-      (subst (λ (g : ForkFacts). neededBlocks f g o (length xs) ≤ freeCount f) (the-fork image acc name there fork) (m .room))
+  pub was-room : neededBlocks (factsOf image) its o (length xs) ≤ freeCount (factsOf image)
+  was-room = subst (λ (g : ForkFacts). neededBlocks f g o (length xs) ≤ freeCount f) (the-fork image acc name there fork) (m .room)
 
-  large : sizeAfter its o xs ≤ (blockCount (A f) its + count) * A f
-  large = taken-hold f its o (length xs) (area image acc .some)
+  -- those taken are free too, and with them the fork holds its bytes
+  pub enough : many ≤ freeCount (factsOf image)
+  enough = taken-are-free f its o (length xs) (area image acc .some) was-room
+
+  holds : sizeAfter its o xs ≤ (blockCount (A f) its + many) * A f
+  holds = taken-hold f its o (length xs) (area image acc .some)
 
   -- the image before the directory's and the count's stores
   abbrev pub base : List ℕ
-  base = afterWrite (S f) (A f) (N f) image its count o xs
+  base = afterWrite (S f) (A f) (N f) image its many o xs
 
   pub frame : Framed (S f) (A f) all image base
-  frame = write-frame (S f) (A f) (N f) (freeCount f) image (area image acc) (near .before) (near .behind) its (near .passes) count o xs was-within enough large
+  frame = write-frame (S f) (A f) (N f) (freeCount f) image (area image acc) (near .before) (near .behind) its (near .passes) many o xs was-within enough holds
 
   alike : Alike (S f) left base
   unfolding written
@@ -89,8 +90,8 @@ module _ (image : List ℕ) (acc : Accepted image) (name : List ℕ) (fork : For
     base = base;
     frame = frame;
     step = written-step image (readable-of image acc) name there fork o xs changed its (based image acc all base frame);
-    forks = write-changed (S f) (A f) (N f) (freeCount f) image (area image acc) (near .before) (near .behind) its (near .passes) count o xs was-within enough
-        large left alike;
+    forks = write-changed (S f) (A f) (N f) (freeCount f) image (area image acc) (near .before) (near .behind) its (near .passes) many o xs was-within enough
+        holds left alike;
   }
 
   pub write-accepted : Accepted left
@@ -99,35 +100,35 @@ module _ (image : List ℕ) (acc : Accepted image) (name : List ℕ) (fork : For
   -- the fork's bytes, count of blocks and blocks afterwards
   pub now-bytes : forkBytes (S f) (A f) left (forkWith (A f) (sizeAfter its o xs) all) ≡ overwritten (forkBytes (S f) (A f) image its) o xs
   now-bytes =
-      write-own (S f) (A f) (N f) (freeCount f) image (area image acc) (near .before) (near .behind) its (near .passes) count o xs was-within enough large
+      write-own (S f) (A f) (N f) (freeCount f) image (area image acc) (near .before) (near .behind) its (near .passes) many o xs was-within enough holds
       left alike
 
-  pub now-many : blockCount (A f) (forkWith (A f) (sizeAfter its o xs) all) ≡ blockCount (A f) its + count
+  pub now-many : blockCount (A f) (forkWith (A f) (sizeAfter its o xs) all) ≡ blockCount (A f) its + many
   now-many =
-      write-count (S f) (A f) (N f) (freeCount f) image (area image acc) (near .before) (near .behind) its (near .passes) count o xs was-within enough large
+      write-count (S f) (A f) (N f) (freeCount f) image (area image acc) (near .before) (near .behind) its (near .passes) many o xs was-within enough holds
 
   pub now-blocks : forkBlocks (mapEntry left) (A f) (forkWith (A f) (sizeAfter its o xs) all) ≡ all
   now-blocks =
-      write-blocks (S f) (A f) (N f) (freeCount f) image (area image acc) (near .before) (near .behind) its (near .passes) count o xs was-within enough large
+      write-blocks (S f) (A f) (N f) (freeCount f) image (area image acc) (near .before) (near .behind) its (near .passes) many o xs was-within enough holds
       left alike
 
   -- what is stored in the map and the blocks; the blocks are none twice, in the image, and hold the fork's bytes
   pub now-stores : BlocksStored (S f) (A f) (N f) image left all o xs
   now-stores =
-      write-stores (S f) (A f) (N f) (freeCount f) image (area image acc) (near .before) (near .behind) its (near .passes) count o xs was-within enough large
+      write-stores (S f) (A f) (N f) (freeCount f) image (area image acc) (near .before) (near .behind) its (near .passes) many o xs was-within enough holds
       left alike
 
   pub now-once : Once all
   now-once =
-      write-once (S f) (A f) (N f) (freeCount f) image (area image acc) (near .before) (near .behind) its (near .passes) count o xs was-within enough large
+      write-once (S f) (A f) (N f) (freeCount f) image (area image acc) (near .before) (near .behind) its (near .passes) many o xs was-within enough holds
 
   pub now-inside : Inside (S f) (A f) image all
   now-inside =
-      write-inside (S f) (A f) (N f) (freeCount f) image (area image acc) (near .before) (near .behind) its (near .passes) count o xs was-within enough large
+      write-inside (S f) (A f) (N f) (freeCount f) image (area image acc) (near .before) (near .behind) its (near .passes) many o xs was-within enough holds
 
   pub now-holds : sizeAfter its o xs ≤ length all * A f
   now-holds =
-      write-holds (S f) (A f) (N f) (freeCount f) image (area image acc) (near .before) (near .behind) its (near .passes) count o xs was-within enough large
+      write-holds (S f) (A f) (N f) (freeCount f) image (area image acc) (near .before) (near .behind) its (near .passes) many o xs was-within enough holds
 
   -- the fork before it: as many bytes as its logical length says, and its blocks are joined
   pub was-length : length (forkBytes (S f) (A f) image its) ≡ its .logical

@@ -236,6 +236,6 @@ further = (
   accented-right,
   row & row & row & row & row & row & looked & looked & looked & looked & looked & looked & refl & refl & refl & refl & end,
   row & row & row & row & row & row & row & row & row & row & row & row & row & end,
-  refl & refl & refl & refl & refl & refl & refl & refl & refl & refl & refl & refl & refl & refl & refl & refl & refl & refl & refl
+  refl & refl & refl & refl & refl & refl & refl & refl & refl & refl & refl & refl & refl & refl & refl & refl & refl & refl & refl & refl
       & row & row & row & row & row & end,
 )

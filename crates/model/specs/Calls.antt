@@ -83,7 +83,7 @@ unfoldable pub rounded : ℕ → ℕ → ℕ
 rounded c count = fewest count c * c
 
 -- The new blocks taken (document 02, T-07): a write that needs new blocks rounds the fork's block count up to whole clumps if enough are
--- free, and otherwise takes exactly what it needs; one that needs none takes none. A clump is c blocks, and the fork has count of them.
+-- free, and otherwise takes exactly what it needs; one that needs none takes none. A clump has c blocks, the fork has count blocks.
 unfoldable pub taken : ℕ → ℕ → ℕ → ℕ → ℕ
 taken c free count need =
     let more = rounded c (count + need) - count in
@@ -212,8 +212,8 @@ unfoldable pub created : VolumeFacts → List ℕ → List ℕ → List ℕ
 created f image e =
     withFiles (f .files + 1) (withNext (nextNumber f + 1) (withDirectory f image (placed e (directoryBlocks f image))))
 
--- Write: the blocks are taken, lowest free number first, and joined at the end in that order; the last one's entry is 1.
--- Bytes of new blocks beyond the written ones stay. The change date is as given, also for n = 0.
+-- Write: so many blocks are taken, lowest free number first, and joined at the end in that order; the last one's entry is 1. Bytes of
+-- new blocks beyond the written ones stay. The change date is as given, also for n = 0.
 unfoldable pub written : VolumeFacts → List ℕ → List ℕ → Fork → ℕ → List ℕ → ℕ → ForkFacts → List ℕ
 written f image name fork o xs changed g =
     let old = forkBlocks (mapEntry image) (A f) g in
@@ -229,9 +229,8 @@ written f image name fork o xs changed g =
 unfoldable pub shortened : VolumeFacts → List ℕ → List ℕ → Fork → ℕ → ℕ → ForkFacts → List ℕ
 shortened f image name fork n changed g =
     let old = forkBlocks (mapEntry image) (A f) g in
-    let count = fewest n (A f) in
-    let kept = take count old in
-    let freed = drop count old in
+    let kept = take (fewest n (A f)) old in
+    let freed = drop (fewest n (A f)) old in
     withFree (freeCount f + length freed)
     (withDirectory f (putFree (putChain image kept) freed)
     (rewritten name (withFork fork (A f) n kept changed) (directoryBlocks f image)))

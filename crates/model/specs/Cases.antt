@@ -721,6 +721,8 @@ clumped =
     -- the fork's count is rounded, and not the new blocks
     ∷ takes 2 2 1 1 1
     ∷ takes 3 9 4 1 2
+    -- beyond the clump that is begun
+    ∷ takes 3 9 2 3 4
     -- enough are free, and one too few: exactly what it needs
     ∷ takes 4 3 5 1 3
     ∷ takes 4 2 5 1 1
@@ -730,7 +732,7 @@ clumped =
     ∷ takes 3 9 2 0 0
     ∷ takes 3 9 2 1 1
     ∷ takes 1 9 2 4 4
-    -- P3 with a clump of two: the fork has four blocks, none is free, and what the last two hold beyond the bytes written stays
+    -- P3 with a clump of two: the fork has four blocks, and none is free
     ∷ does (clumpDisk 1024) (write WEEK1 Data 700 (sample 0 400) 9) (only 0 [])
     (withBytes 1058 (bytes16 0) (withBytes 1088 (0x00 ∷ 0x40 ∷ 0x01 ∷ 0x00 ∷ 0x50 ∷ 0x06 ∷ 0x00 ∷ 0x10 ∷ [])
     (withWeek1 2 1100 2048 9 (withBytes 3772 (sample 0 324) (withBytes 4096 (sample 324 76) (clumpDisk 1024))))))

@@ -17,8 +17,8 @@ mapped free map image = withBytes 1058 (bytes16 free) (withBytes 1088 map image)
 unfoldable pub withRates : ℕ → ℕ → ℕ → List ℕ → List ℕ
 withRates start logical physical image = withBytes 2126 (forkBytesOf start logical physical) (withBytes 2150 (bytes32 9) image)
 
-unfoldable pub withIcon : ℕ → ℕ → ℕ → List ℕ → List ℕ
-withIcon start logical physical image = withBytes 2136 (forkBytesOf start logical physical) (withBytes 2150 (bytes32 9) image)
+unfoldable pub withRatesResource : ℕ → ℕ → ℕ → List ℕ → List ℕ
+withRatesResource start logical physical image = withBytes 2136 (forkBytesOf start logical physical) (withBytes 2150 (bytes32 9) image)
 
 -- blocks 5 and 6, which are free, hold bytes
 unfoldable pub usedDisk : ℕ → List ℕ
@@ -46,6 +46,10 @@ fullBlocks image =
 unfoldable pub cutDisk : List ℕ
 cutDisk = mapped 1 (0x00 ∷ 0x40 ∷ 0x01 ∷ 0x00 ∷ 0x50 ∷ 0x01 ∷ 0x00 ∷ 0x00 ∷ []) (withWeek1 2 1100 1536 9 (fourthBlock (clumpDisk 1024)))
 
+-- WEEK1 cut to one byte
+unfoldable pub shortDisk : List ℕ
+shortDisk = mapped 3 (0x00 ∷ 0x10 ∷ 0x01 ∷ 0x00 ∷ 0x00 ∷ 0x00 ∷ []) (withWeek1 2 1 512 9 (clumpDisk 1024))
+
 -- P3 with each clump size
 unfoldable pub sizes : List Row
 sizes =
@@ -62,7 +66,7 @@ sizes =
     ∷ does (clumpDisk 1023) (write WEEK1 Data 700 (sample 0 400) 9) (only 0 []) (thirdBlock (clumpDisk 1023))
     ∷ []
 
--- RATES, whose data fork has one block and whose resource fork has none
+-- forks of one block and of none, which are those of RATES, and 17
 unfoldable pub counts : List Row
 counts =
     -- its count is rounded, and not the new blocks: to two, and to three
@@ -77,36 +81,34 @@ counts =
     ∷ does (clumpDisk 1536) (write RATES Resource 0 [] 9) (only 0 []) (withBytes 2150 (bytes32 9) (clumpDisk 1536))
     -- an empty fork: to two; one block needed, two free and a clump of three: one
     ∷ does (clumpDisk 1024) (write RATES Resource 0 (77 ∷ []) 9) (only 0 [])
-    (mapped 0 (0x00 ∷ 0x40 ∷ 0x01 ∷ 0x00 ∷ 0x10 ∷ 0x06 ∷ 0x00 ∷ 0x10 ∷ []) (withIcon 5 1 1024 (withBytes 4096 (77 ∷ []) (clumpDisk 1024))))
+    (mapped 0 (0x00 ∷ 0x40 ∷ 0x01 ∷ 0x00 ∷ 0x10 ∷ 0x06 ∷ 0x00 ∷ 0x10 ∷ []) (withRatesResource 5 1 1024 (withBytes 4096 (77 ∷ []) (clumpDisk 1024))))
     ∷ does (clumpDisk 1536) (write RATES Resource 0 (77 ∷ []) 9) (only 0 [])
-    (mapped 1 (0x00 ∷ 0x40 ∷ 0x01 ∷ 0x00 ∷ 0x10 ∷ 0x01 ∷ []) (withIcon 5 1 512 (withBytes 4096 (77 ∷ []) (clumpDisk 1536))))
+    (mapped 1 (0x00 ∷ 0x40 ∷ 0x01 ∷ 0x00 ∷ 0x10 ∷ 0x01 ∷ []) (withRatesResource 5 1 512 (withBytes 4096 (77 ∷ []) (clumpDisk 1536))))
     -- 17: the new blocks needed are those before rounding; the spare block of a clump is its fork's
-    ∷ does (clumpDisk 2048) (write WEEK1 Data 700 (sample 0 1348) 9) (only 0 []) (fullBlocks (clumpDisk 2048))
+    ∷ does (clumpDisk 2560) (write WEEK1 Data 700 (sample 0 1348) 9) (only 0 []) (fullBlocks (clumpDisk 2560))
     ∷ refused 17 (write WEEK1 Data 700 (sample 0 1349) 9) (clumpDisk 1536)
     ∷ refused 17 (write RATES Data 512 (77 ∷ []) 9) (fourthBlock (clumpDisk 1024))
     ∷ []
 
--- calls behind each other, with a clump of two or of three
-unfoldable pub behind : List Row
-behind =
+-- calls one behind the other, with a clump of two or of three
+unfoldable pub afterOthers : List Row
+afterOthers =
     -- bytes within the spare blocks take none; one more block would be needed: 17
     does (fourthBlock (clumpDisk 1024)) (write WEEK1 Data 1100 (sample 400 948) 9) (only 0 []) (fullBlocks (clumpDisk 1024))
     ∷ refused 17 (write WEEK1 Data 1100 (sample 400 949) 9) (fourthBlock (clumpDisk 1024))
     -- a cut to the fork's own length keeps the fewest blocks, and so gives the spare one back
     ∷ does (fourthBlock (clumpDisk 1024)) (cut WEEK1 Data 1100 9) (only 0 []) cutDisk
-    -- a write behind it: the third block has room; then the count is rounded again
+    -- a write behind it: the third block has room; then the fourth makes the clump whole
     ∷ does cutDisk (write WEEK1 Data 1100 (sample 400 436) 9) (only 0 []) (withWeek1 2 1536 1536 9 (withBytes 4172 (sample 400 436) cutDisk))
     ∷ does cutDisk (write WEEK1 Data 1100 (sample 400 948) 9) (only 0 []) (fullBlocks (clumpDisk 1024))
-    -- a cut into the first block of a clump, and a write behind it
-    ∷ does (clumpDisk 1024) (cut WEEK1 Data 1 9) (only 0 [])
-    (mapped 3 (0x00 ∷ 0x10 ∷ 0x01 ∷ 0x00 ∷ 0x00 ∷ 0x00 ∷ []) (withWeek1 2 1 512 9 (clumpDisk 1024)))
-    ∷ does (mapped 3 (0x00 ∷ 0x10 ∷ 0x01 ∷ 0x00 ∷ 0x00 ∷ 0x00 ∷ []) (withWeek1 2 1 512 9 (clumpDisk 1536))) (write WEEK1 Data 1 (sample 0 512) 9)
-    (only 0 [])
-    (mapped 1 (0x00 ∷ 0x40 ∷ 0x01 ∷ 0x00 ∷ 0x50 ∷ 0x01 ∷ []) (withWeek1 2 513 1536 9
-    (withBytes 2561 (sample 0 511) (withBytes 3584 (sample 511 1) (clumpDisk 1536)))))
+    -- a cut into the first block of a clump, and a write behind it to the first of another
+    ∷ does (clumpDisk 1024) (cut WEEK1 Data 1 9) (only 0 []) shortDisk
+    ∷ does shortDisk (write WEEK1 Data 1 (sample 0 1024) 9) (only 0 [])
+    (mapped 0 (0x00 ∷ 0x40 ∷ 0x01 ∷ 0x00 ∷ 0x50 ∷ 0x06 ∷ 0x00 ∷ 0x10 ∷ []) (withWeek1 2 1025 2048 9
+    (withBytes 2561 (sample 0 511) (withBytes 3584 (sample 511 512) (withBytes 4096 (sample 1023 1) shortDisk)))))
     -- P4's bytes in the parts 400 and 948 with a clump of three: no whole clump behind the first
     ∷ does (thirdBlock (clumpDisk 1536)) (write WEEK1 Data 1100 (sample 400 948) 9) (only 0 []) (fullBlocks (clumpDisk 1536))
     ∷ []
 
 unfoldable pub ClumpCases : Type 0
-ClumpCases = AllRight sizes × AllRight counts × AllRight behind
+ClumpCases = AllRight sizes × AllRight counts × AllRight afterOthers

@@ -3,7 +3,7 @@ use Prim.Native.Nat.{ℕ, _+_, _*_, _<_}
 use mathlib.Core.Path.{_≡_, sym, ap, ap₂, _∙_}
 use native.Mathlib.Omega.{arith}
 use borrow.Author.Needs.{needs}
-use Rattle.model.specs.Facts.{A, clump, freeCount}
+use Rattle.model.specs.Facts.{A, clump}
 use Rattle.model.specs.Directory.{blockCount}
 use Rattle.model.specs.Calls.{fewest, rounded, taken}
 use Rattle.model.specs.declared.VolumeFacts.{VolumeFacts}
@@ -14,9 +14,8 @@ use Rattle.forks.proofs.needs.taken_blocks.Tie as tie
 returns : tie.Need-returns
 returns c =
     let a = c .before .args in
-    let f = a .f in
-    sym (ap (taken (clump f) (freeCount f) (blockCount (A f) (a .g))) (c .if1 .taken) ∙ taken-none (clump f) (clump-some f (omega (arith, c .before .pre)))
-    (freeCount f) (blockCount (A f) (a .g)))
+    let count = blockCount (A (a .f)) (a .g) in
+    sym (ap (taken (clump (a .f)) (a .free) count) (c .if1 .taken) ∙ taken-none (clump (a .f)) (a .free) count)
 
 block-count-requires : tie.Need-block-count-requires
 block-count-requires c κs = search needs
@@ -33,7 +32,7 @@ cast-clump c = search needs
 add-blocks-for : tie.Need-add-blocks-for
 add-blocks-for c = search needs
 
--- the clump has blocks
+-- a clump has blocks
 module _ (c : tie.After-clump-blocks) where
   abbrev has : tie.After-block-count
   has = c .before
@@ -41,14 +40,11 @@ module _ (c : tie.After-clump-blocks) where
   abbrev start : tie.Start
   start = has .before .before
 
-  abbrev size : ℕ
-  size = c .clump-blocks .result
-
-  some : 0 < size
-  some = rw (c .clump-blocks .ensures) (clump-some (start .args .f) (omega (arith, start .pre)))
+  positive : 0 < clump (start .args .f)
+  positive = clump-some (start .args .f) (omega (arith, start .pre))
 
 blocks-for-requires : tie.Need-blocks-for-requires
-blocks-for-requires c κs = (some c, omega arith)
+blocks-for-requires c κs = (rw (c .clump-blocks .ensures) (positive c), omega arith)
 
 -- the fork's count rounded up to whole clumps
 module _ (c : tie.After-blocks-for) where
@@ -61,41 +57,38 @@ module _ (c : tie.After-blocks-for) where
   abbrev count : ℕ
   count = blockCount (A f) (at .args .g)
 
-  positive : 0 < clump f
-  positive = clump-some f (omega (arith, at .pre))
-
-  whole-is : c .blocks-for .result * size (c .before) ≡ rounded (clump f) (count + at .args .need)
+  whole-is : c .blocks-for .result * c .before .clump-blocks .result ≡ rounded (clump f) (count + at .args .need)
   unfolding rounded
   whole-is =
-      ap (λ (n : ℕ). n * size (c .before)) (c .blocks-for .ensures)
+      ap (λ (n : ℕ). n * c .before .clump-blocks .result) (c .blocks-for .ensures)
       ∙ ap₂ (λ (n k : ℕ). fewest (n + at .args .need) k * k) (has (c .before) .block-count .ensures) (c .before .clump-blocks .ensures)
 
 mul-whole : tie.Need-mul-whole
-mul-whole c = omega (arith, whole-is c, rounded-most (clump (f c)) (positive c) (count c + at c .args .need))
+mul-whole c = omega (arith, whole-is c, rounded-most (clump (f c)) (positive (c .before)) (count c + at c .args .need))
 
 sub-more : tie.Need-sub-more
 sub-more c =
-    omega (arith, whole-is c, rounded-holds (clump (f c)) (positive c) (count c + at c .args .need), has (c .before) .block-count .ensures)
-
-cast-if2 : tie.Need-cast-if2
-cast-if2 c = search needs
+    omega (
+      arith,
+      whole-is c,
+      rounded-holds (clump (f c)) (positive (c .before)) (count c + at c .args .need),
+      has (c .before) .block-count .ensures,
+    )
 
 returns-2 : tie.Need-returns-2
 returns-2 c =
-    let k = c .before .before in
-    sym (taken-exact (clump (f k)) (positive k) (freeCount (f k)) (count k) (at k .args .need) (omega arith) (omega (arith, whole-is k, c .if2 .taken)))
+    let k = c .before in
+    let a = at k .args in
+    sym (taken-exact (clump (f k)) (a .free) (count k) (a .need) (omega arith) (omega (arith, whole-is k, c .if2 .taken)))
 
 cast-result : tie.Need-cast-result
 cast-result c = search needs
 
 returns-3 : tie.Need-returns-3
 returns-3 c =
-    let k = c .before .before in
-    omega (
-      arith,
-      whole-is k,
-      taken-whole (clump (f k)) (positive k) (freeCount (f k)) (count k) (at k .args .need) (omega arith) (omega (arith, whole-is k, c .if2 .left)),
-    )
+    let k = c .before in
+    let a = at k .args in
+    omega (arith, whole-is k, taken-whole (clump (f k)) (a .free) (count k) (a .need) (omega arith) (omega (arith, whole-is k, c .if2 .left)))
 
 pub taken-blocks-spec : {M : Type 1} → statement M
 taken-blocks-spec =
@@ -110,7 +103,6 @@ taken-blocks-spec =
     blocks-for-requires
     mul-whole
     sub-more
-    cast-if2
     returns-2
     cast-result
     returns-3)
