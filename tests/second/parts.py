@@ -360,7 +360,7 @@ def open_state(tape):
 
 
 def on_a_disk(tape, aims):
-    """Writes with these aims in forks of such files."""
+    """Writes with these aims in forks of the files of open_state."""
     rng = random.Random(87)
     for aim in aims:
         in_a_file(tape, *write_in(rng, open_state(tape), aim, 1500))

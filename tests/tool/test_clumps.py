@@ -7,8 +7,7 @@ import struct
 from support import Case, hall, wrapped
 
 FULL = 'the new blocks needed exceed those free'
-SPARE = (" (other forks have %s; mfs cut to a fork's own length frees its "
-         "spare ones)")
+SPARE = ' (spare blocks would make room: %s; see mfs help cut)'
 
 
 def in_clumps(image, size):
@@ -26,14 +25,23 @@ class Clumps(Case):
         self.done('append', '--date=@1', self.image, name, '-',
                   stdin=b'x' * length)
 
-    def full(self, name, length, remark=''):
-        """An append that has no room, in these words; nothing is saved."""
+    def refuses(self, length, spare, *arguments):
+        """So many bytes have no room, in these words; nothing is saved."""
         before = self.read()
-        ran = self.refused(17, 'append', '--date=@1', self.image, name, '-',
-                           stdin=b'x' * length)
+        ran = self.refused(17, *arguments, '-', stdin=b'x' * length)
+        remark = SPARE % spare if spare else ''
         self.assertEqual(ran.err, 'mfs: %s: refused 17: %s%s\n' % (
             self.image, FULL, remark))
         self.assertEqual(self.read(), before)
+
+    def full(self, name, length, spare=''):
+        """An append that has no room."""
+        self.refuses(length, spare, 'append', '--date=@1', self.image, name)
+
+    def full_put(self, name, length, spare=''):
+        """A put that has no room."""
+        self.refuses(length, spare, 'put', '--date=@1', '--as', name,
+                     self.image)
 
     def told(self, name, free, logical, physical):
         """The free blocks, and the lengths of a file's data fork."""
@@ -56,7 +64,7 @@ class Clumps(Case):
         self.assertIn(b'NEW, data fork, 2 blocks: 5-6\n',
                       self.done('map', self.image))
         self.assertEqual(self.done('get', self.image, 'NEW'), b'x' * 100)
-        self.full('WEEK1', 400, SPARE % '1 spare block')
+        self.full('WEEK1', 400, '1 of NEW')
         self.done('cut', '--date=@1', self.image, 'NEW', '100')
         self.told('NEW', 1, 100, 512)
         self.append('WEEK1', 400)
@@ -75,11 +83,32 @@ class Clumps(Case):
         self.append('NEW', 1)
         self.told('NEW', 0, 1537, 2048)
 
+    def test_who_has_spare_blocks(self):
+        """A resource fork has one, for its file's data fork, another file, a
+        new one, and one that is put anew. Two forks have one each."""
+        self.write(in_clumps(hall.hall(), 1024))
+        self.done('put', '-r', '--date=@1', '--as', 'RATES', self.image, '-',
+                  stdin=b'x')
+        spare = '1 of the resource fork of RATES'
+        self.full('RATES', 1, spare)
+        self.full('WEEK1', 400, spare)
+        self.full_put('NEW', 100, spare)
+        self.full_put('WEEK1', 1500, spare)
+        self.write(in_clumps(hall.hall(), 1024))
+        self.done('delete', self.image, 'WEEK1')
+        for name in ('B', 'A'):
+            self.put(name, 100)
+        self.full('RATES', 1024, '1 of B, 1 of A')
+        self.full('RATES', 512, '1 of B')
+        self.done('cut', '--date=@1', self.image, 'B', '100')
+        self.append('RATES', 512)
+
     def test_spare_blocks_that_do_not_help(self):
-        """Those of the fork itself, and those of a locked file."""
+        """Those of the fork itself, those of a locked file, too few."""
         self.write(in_clumps(hall.hall(), 1024))
         self.put('NEW', 100)
         self.full('NEW', 1000)
+        self.full('WEEK1', 900)
         image = bytearray(self.read())
         image[2048 + 112] |= 1
         self.write(image)
@@ -109,6 +138,7 @@ class Clumps(Case):
             self.told('Week', 382, 8193, 9216)
             self.put('Week', 100)
             self.told('Week', 383, 100, 8192)
+            self.full_put('Log', 390 * 1024, '7 of Week')
 
     def test_help(self):
         for verb, word in (('put', 'clump'), ('append', 'as by put'),

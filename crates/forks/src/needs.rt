@@ -85,8 +85,8 @@ fn clump_blocks(f: VolumeFacts) -> u32
     f.clump_size / f.block_size
 }
 
-// The new blocks that a write to the fork g takes which needs so many: none for none; those that make whole clumps of all its blocks,
-// if so many are free; else just those needed.
+// The new blocks that a write takes for the fork g where it needs so many: none where it needs none; those that make whole clumps of
+// all the fork's blocks, if so many are free; else just those needed.
 pub fn taken_blocks(f: VolumeFacts, g: ForkFacts, free: u16, need: u16) -> u16
     requires { ⌜ 512 ≤ f .«block_size» ⌝ }
     ensures { λ r. ⌜ r ≡ taken (clump f) free (blockCount (f .«block_size») g) need ⌝ }

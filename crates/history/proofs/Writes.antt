@@ -32,10 +32,10 @@ use Rattle.history.proofs.Answers.{same-A, same-clump, same-free}
 use Rattle.history.proofs.Rewrites.{rewrite-agrees, rewrite-kept, named-now-blocks}
 use Rattle.history.proofs.Joined.{Done}
 
--- a fork of count blocks that holds all in least has, with those that a write takes, the history's count
-rises : (c : ℕ) → 0 < c → (free count least : ℕ) → count + taken c free count (least - count) ≡ countAfter c free count least
+-- the fork's count and the blocks that a write takes make the history's count, where all bytes need so many blocks
+count-taken : (c : ℕ) → 0 < c → (free count least : ℕ) → count + taken c free count (least - count) ≡ countAfter c free count least
 unfolding countAfter rounded
-rises c pos free count least =
+count-taken c pos free count least =
     elim (decLe least count) [
       | yes h ↦
           let none : least - count ≡ 0 = omega arith in
@@ -81,7 +81,7 @@ module _ (image : List ℕ) (acc : Accepted image) (name : List ℕ) (fork : For
       let size : max (was .logical) (o + length xs) ≡ length (overwritten bytes o xs) =
       ap (λ (k : ℕ). max k (o + length xs)) (sym long)
       ∙ sym (length-overwritten bytes o xs (omega (arith, long, was-within image acc name fork o xs changed m))) in
-      rises (clump f) (clump-some f (area image acc .some)) (freeCount f) (blockCount (A f) was) (fewest (max (was .logical) (o + length xs)) (A f))
+      count-taken (clump f) (clump-some f (area image acc .some)) (freeCount f) (blockCount (A f) was) (fewest (max (was .logical) (o + length xs)) (A f))
       ∙ ap (λ (n : ℕ). countAfter (clump f) (freeCount f) (blockCount (A f) was) (fewest n (A f))) size
 
   own : heldIn f after (forkWith (A f) (sizeAfter was o xs) now) ≡ writes (A f) (clump f) (freeCount f) o xs (heldIn f image was)

@@ -1,5 +1,5 @@
--- The counts of a write: the logical length, the blocks needed, by which 17 is decided, and the blocks taken. Those taken are free and hold
--- the bytes. Then all that the law for two parts asks of these counts.
+-- The counts of a write: the logical length, the blocks needed, by which 17 is decided, and the blocks taken, which are free and hold the
+-- bytes. With these, all that the law for two parts asks of the counts.
 use Prim.Native.Nat.{ℕ, _+_, _-_, _*_, _/_, _%_, _≤_, _<_, max}
 use mathlib.Core.Path.{_≡_, refl, ap, ap₂, _∙_}
 use native.Mathlib.Omega.{arith}

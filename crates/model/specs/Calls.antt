@@ -70,7 +70,7 @@ fewest n a = (n + (a - 1)) / a
 unfoldable pub grown : ℕ → ℕ → ℕ → ℕ
 grown logical o n = max logical (o + n)
 
--- If that needs more blocks than the fork has, these are missing: the new blocks needed.
+-- If that needs more blocks than the fork has, the missing ones are the new blocks needed.
 unfoldable pub needed : ℕ → ℕ → ℕ → ℕ
 needed a logical blocks = fewest logical a - blocks
 

@@ -706,7 +706,7 @@ clumpDisk size = withBytes 1048 (bytes32 size) hall
 -- document 02, T-07
 unfoldable pub clumped : List Row
 clumped =
-    -- a multiple of A and at least A: 2·A, 3·A, A, 65,535·A
+    -- a multiple of A and at least A: 2·A, 3·A, A, 65,535·A, and 3·A of a larger A
     clumps 512 1024 2
     ∷ clumps 512 1536 3
     ∷ clumps 512 512 1
@@ -740,11 +740,11 @@ clumped =
     ∷ does (clumpDisk 2560) (write WEEK1 Data 700 (sample 0 400) 9) (only 0 [])
     (withBytes 1058 (bytes16 1) (withBytes 1088 (0x00 ∷ 0x40 ∷ 0x01 ∷ 0x00 ∷ 0x50 ∷ 0x01 ∷ [])
     (withWeek1 2 1100 1536 9 (withBytes 3772 (sample 0 324) (withBytes 4096 (sample 324 76) (clumpDisk 2560))))))
-    -- P4 with a clump of three: six blocks are too many, and 17 is not asked of them; P5 gets 17 all the same
+    -- P4 with a clump of three: six blocks are too many, and 17 is not asked of them; P5 with it gets 17 all the same
     ∷ does (clumpDisk 1536) (write WEEK1 Data 700 (sample 0 1348) 9) (only 0 [])
     (withBytes 1058 (bytes16 0) (withBytes 1088 (0x00 ∷ 0x40 ∷ 0x01 ∷ 0x00 ∷ 0x50 ∷ 0x06 ∷ 0x00 ∷ 0x10 ∷ [])
     (withWeek1 2 2048 2048 9 (withBytes 3772 (sample 0 324) (withBytes 4096 (sample 324 1024) (clumpDisk 1536))))))
-    ∷ refused 17 (write WEEK1 Data 700 (sample 0 1349) 9) (clumpDisk 1024)
+    ∷ refused 17 (write WEEK1 Data 700 (sample 0 1349) 9) (clumpDisk 1536)
     -- P8 with a clump of two: one block is kept
     ∷ does (clumpDisk 1024) (cut WEEK1 Data 512 9) (only 0 [])
     (withBytes 1058 (bytes16 3) (withBytes 1088 (0x00 ∷ 0x10 ∷ 0x01 ∷ 0x00 ∷ 0x00 ∷ 0x00 ∷ []) (withWeek1 2 512 512 9 (clumpDisk 1024))))

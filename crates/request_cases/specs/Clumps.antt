@@ -86,19 +86,19 @@ counts =
     (mapped 1 (0x00 ∷ 0x40 ∷ 0x01 ∷ 0x00 ∷ 0x10 ∷ 0x01 ∷ []) (withRatesResource 5 1 512 (withBytes 4096 (77 ∷ []) (clumpDisk 1536))))
     -- 17: the new blocks needed are those before rounding; the spare block of a clump is its fork's
     ∷ does (clumpDisk 2560) (write WEEK1 Data 700 (sample 0 1348) 9) (only 0 []) (fullBlocks (clumpDisk 2560))
-    ∷ refused 17 (write WEEK1 Data 700 (sample 0 1349) 9) (clumpDisk 1536)
+    ∷ refused 17 (write WEEK1 Data 700 (sample 0 1349) 9) (clumpDisk 1024)
     ∷ refused 17 (write RATES Data 512 (77 ∷ []) 9) (fourthBlock (clumpDisk 1024))
     ∷ []
 
 -- calls one behind the other, with a clump of two or of three
 unfoldable pub afterOthers : List Row
 afterOthers =
-    -- bytes within the spare blocks take none; one more block would be needed: 17
+    -- bytes within the spare block take none; where one more would be needed: 17
     does (fourthBlock (clumpDisk 1024)) (write WEEK1 Data 1100 (sample 400 948) 9) (only 0 []) (fullBlocks (clumpDisk 1024))
     ∷ refused 17 (write WEEK1 Data 1100 (sample 400 949) 9) (fourthBlock (clumpDisk 1024))
     -- a cut to the fork's own length keeps the fewest blocks, and so gives the spare one back
     ∷ does (fourthBlock (clumpDisk 1024)) (cut WEEK1 Data 1100 9) (only 0 []) cutDisk
-    -- a write behind it: the third block has room; then the fourth makes the clump whole
+    -- a write behind it: the third block has room, or the fourth makes the clump whole
     ∷ does cutDisk (write WEEK1 Data 1100 (sample 400 436) 9) (only 0 []) (withWeek1 2 1536 1536 9 (withBytes 4172 (sample 400 436) cutDisk))
     ∷ does cutDisk (write WEEK1 Data 1100 (sample 400 948) 9) (only 0 []) (fullBlocks (clumpDisk 1024))
     -- a cut into the first block of a clump, and a write behind it to the first of another
@@ -106,7 +106,7 @@ afterOthers =
     ∷ does shortDisk (write WEEK1 Data 1 (sample 0 1024) 9) (only 0 [])
     (mapped 0 (0x00 ∷ 0x40 ∷ 0x01 ∷ 0x00 ∷ 0x50 ∷ 0x06 ∷ 0x00 ∷ 0x10 ∷ []) (withWeek1 2 1025 2048 9
     (withBytes 2561 (sample 0 511) (withBytes 3584 (sample 511 512) (withBytes 4096 (sample 1023 1) shortDisk)))))
-    -- P4's bytes in the parts 400 and 948 with a clump of three: no whole clump behind the first
+    -- the second part of P4's bytes, 948 behind 400, with a clump of three: the rest of a second clump is not free
     ∷ does (thirdBlock (clumpDisk 1536)) (write WEEK1 Data 1100 (sample 400 948) 9) (only 0 []) (fullBlocks (clumpDisk 1536))
     ∷ []
 

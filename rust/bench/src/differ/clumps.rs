@@ -8,7 +8,7 @@ use std::fmt;
 
 /// The ways that are counted. All but the last are those of clumps of two or more blocks.
 const WAYS: [&str; 7] = [
-    "rounded up",
+    "rounded up, blocks left free",
     "rounded up to the last free block",
     "whole clumps needed",
     "too few free to round up",

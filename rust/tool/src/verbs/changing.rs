@@ -11,7 +11,6 @@ use crate::console::Console;
 use crate::dates;
 use crate::failure::Failure;
 use crate::files;
-use crate::listing;
 use crate::names;
 use crate::save::Target;
 
@@ -61,50 +60,63 @@ pub fn put(arguments: &Arguments, _: &mut Console) -> Result<(), Failure> {
             Ok(_) => volume.cut(image, &name, fork, 0, date),
             Err(_) => volume.create(image, &name, &finder, date, date),
         };
-        let done = ready.and_then(|()| volume.write(image, &name, fork, 0, &bytes, date));
-        done.map_err(unwritten(path, volume, image, &name, fork))
+        ready.map_err(refused(path))?;
+        store(path, volume, image, (&name, fork), |image| {
+            volume.write(image, &name, fork, 0, &bytes, date)
+        })
     })
 }
 
-/// The failure of a write to a fork. For want of room it tells of spare blocks, if there are any.
-fn unwritten<'a>(
-    path: &'a OsStr,
+/// Writes to a fork. Where there is no room, the refusal tells of other forks' spare blocks that would make room.
+fn store(
+    path: &OsStr,
     volume: Volume,
-    image: &'a [u8],
-    name: &'a [u8],
-    fork: Fork,
-) -> impl Fn(Refusal) -> Failure + 'a {
-    move |refusal| {
+    image: &mut [u8],
+    own: (&[u8], Fork),
+    write: impl Fn(&mut [u8]) -> Result<(), Refusal>,
+) -> Result<(), Failure> {
+    write(image).map_err(|refusal| {
         let full = refusal.number() == NO_ROOM;
-        let spare = full.then(|| spare_blocks(volume, image, name, fork).unwrap_or(0));
-        let told = spare
-            .filter(|&spare| spare > 0)
-            .map(|spare| listing::count(spare, "spare block"));
+        let spare = full.then(|| spare_blocks(volume, image, own, &write)).flatten();
         Failure::Refused {
             image: names::path(path),
             refusal,
-            remark: told
-                .map(|told| format!("other forks have {told}; mfs cut to a fork's own length frees its spare ones")),
+            remark: spare.map(|spare| format!("spare blocks would make room: {spare}; see mfs help cut")),
         }
-    }
+    })
 }
 
-/// How many blocks hold no byte of the forks that have them, and can be freed. Those of the fork named are left out: a
-/// write to it fills them.
-fn spare_blocks(volume: Volume, image: &[u8], name: &[u8], fork: Fork) -> Result<u64, Refusal> {
-    let size = volume.check(image)?.block_size;
-    let (own, _) = volume.find(image, name)?;
-    let mut spare = 0;
-    for (entry, place) in volume.entries(image)?.iter().zip(0..) {
-        for other in [Fork::Data, Fork::Resource] {
-            let facts = entry.fork(other);
-            if !entry.is_locked() && (place, other) != (own, fork) {
-                let unused = facts.physical.saturating_sub(facts.logical);
-                spare += u64::from(unused.checked_div(size).unwrap_or(0));
+/// The spare blocks of other forks, as many as the write needs to have room: on a copy, forks are cut to their own
+/// length until it does.
+fn spare_blocks(
+    volume: Volume,
+    image: &[u8],
+    (name, fork): (&[u8], Fork),
+    write: impl Fn(&mut [u8]) -> Result<(), Refusal>,
+) -> Option<String> {
+    let (own, _) = volume.find(image, name).ok()?;
+    let mut copy = image.to_vec();
+    let mut free = volume.check(image).ok()?.free_blocks;
+    let mut spare = Vec::new();
+    for (entry, place) in volume.entries(image).ok()?.iter().zip(0..) {
+        for (other, title) in [(Fork::Data, ""), (Fork::Resource, "the resource fork of ")] {
+            let length = entry.fork(other).logical.into();
+            if (place, other) == (own, fork) {
+                continue;
             }
+            // a locked file refuses, and keeps its blocks
+            let _ = volume.cut(&mut copy, &entry.name, other, length, entry.changed);
+            let more = volume.check(&copy).ok()?.free_blocks;
+            if more > free {
+                spare.push(format!("{} of {title}{}", more - free, names::shown(&entry.name)));
+                if write(&mut copy).is_ok() {
+                    return Some(spare.join(", "));
+                }
+            }
+            free = more;
         }
     }
-    Ok(spare)
+    None
 }
 
 /// The name that a new file gets: what `--as` gives, or its own on this machine.
@@ -148,9 +160,9 @@ pub fn append(arguments: &Arguments, _: &mut Console) -> Result<(), Failure> {
         // where find refuses, write does too, and says why
         let found = volume.find(image, &name);
         let end = found.map_or(0, |(_, entry)| entry.fork(fork).logical);
-        volume
-            .write(image, &name, fork, end.into(), &bytes, date)
-            .map_err(unwritten(path, volume, image, &name, fork))
+        store(path, volume, image, (&name, fork), |image| {
+            volume.write(image, &name, fork, end.into(), &bytes, date)
+        })
     })
 }
 

@@ -101,8 +101,8 @@ Without --as the name is FILE's own. A file that is there keeps its number,
 type, creator and creation date. A new one has a name of at most 31 characters,
 and the type and creator given, ???? for each that is not.
 A fork that needs blocks takes whole clumps, by the disk's clump size, if so
-many are free; else what it needs. Blocks without a byte are spare: mfs cut to
-the fork's own length frees them.
+many are free; else what it needs. Blocks without a byte are spare: mfs cut
+frees them.
 ",
         options: &["-r", "--as", "--type", "--creator", "--date", "--wrapped", "--bare"],
         fewest: 2,
@@ -127,7 +127,8 @@ Blocks are taken as by put.
         does: "the fork's first bytes stay",
         more: "\
 Every block that they do not need is free then. LENGTH may be the fork's own
-length: only spare blocks go.
+length, by which only spare blocks go. The change date becomes DATE then too:
+to keep the old one, give it again; mfs list -l shows it.
 ",
         options: &["-r", "--date", "--wrapped", "--bare"],
         fewest: 3,
