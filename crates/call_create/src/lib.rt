@@ -1,4 +1,5 @@
 // What create does on an accepted image, whose facts are known.
+#![tactic(auto)]
 mod add;
 mod create;
 

@@ -1,4 +1,5 @@
 // What cut does on an accepted image, whose facts are known.
+#![tactic(auto)]
 mod cut;
 mod shorten;
 

@@ -1,4 +1,5 @@
 // What delete does on an accepted image, whose facts are known.
+#![tactic(auto)]
 mod delete;
 mod take;
 

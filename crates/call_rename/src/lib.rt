@@ -1,4 +1,5 @@
 // What rename does on an accepted image, whose facts are known.
+#![tactic(auto)]
 mod rename;
 mod retitle;
 

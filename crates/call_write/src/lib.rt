@@ -1,4 +1,5 @@
 // What write does on an accepted image, whose facts are known.
+#![tactic(auto)]
 mod grow;
 mod write;
 

@@ -9,7 +9,7 @@ use lib.Seq.{sets}
 use lib.Dec.{eqb}
 use Rattle.model.specs.Lists.{flat}
 use Rattle.model.specs.Bytes.{be16, be32, bytes32, zeros}
-use Rattle.model.specs.Check.{first_of}
+use Rattle.model.specs.Check.{first_refusal}
 use Rattle.model.specs.Container.{inside, checksum, tag_checksum, bad_size, container_verdict, renewed}
 use Rattle.model.specs.Calls.{refusal, change}
 use Rattle.model.specs.Calls.Call.{create}
@@ -69,11 +69,11 @@ unfolding head_of flat head_for
 renewed_file = with_new (head_for 0x0336eed7) empty800 (sample 0 9600) refl whole news800 0x04f876cd news_sum ∙ new_header (news800 ++ sample 0 9600)
 
 pub whole_file : WholeFile
-unfolding WholeFile tagged file_after file_refusal first_of
+unfolding WholeFile tagged file_after file_refusal first_refusal
 whole_file =
     let call = create NEWS (zeros 16) 7 8 in
-    let number : first_of (container_verdict file) (refusal call (inside file)) ≡ 0 =
-    ap (λ (n : ℕ). first_of n (refusal call (inside file))) sound ∙ ap (refusal call) content ∙ passes in
+    let number : first_refusal (container_verdict file) (refusal call (inside file)) ≡ 0 =
+    ap (λ (n : ℕ). first_refusal n (refusal call (inside file))) sound ∙ ap (refusal call) content ∙ passes in
     ap (λ (n : ℕ). cond (eqb n 0) (renewed file (change call (inside file))) file) number
     ∙ ap (λ (l : List ℕ). renewed file (change call l)) content
     ∙ ap (renewed file) made

@@ -308,7 +308,7 @@ old_names =
     ∷ refused 13 (delete (long_name 67 32)) old_disk
     ∷ []
 
--- three directory blocks: tightDisk's, one with NEWS, one without a file; in each, bytes behind the reading
+-- three directory blocks: tight_disk's, one with NEWS, one without a file; in each, bytes behind the reading
 unfoldable pub left_disk : List ℕ
 left_disk = with_bytes 2558 (0x7f ∷ 0xee ∷ []) (tight_disk 3 (news_entry 5 0 ++ (0x7f ∷ (sample 0 455 ++ (0x7f ∷ sample 0 99)))) 5)
 

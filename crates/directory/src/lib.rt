@@ -1,5 +1,6 @@
 // The directory: its entries in order, the fields of an entry, names compared without case, entries found by name and by place, and a name
 // found in a directory that was not checked.
+#![tactic(auto)]
 mod fields;
 mod folds;
 mod names;

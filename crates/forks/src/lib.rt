@@ -1,4 +1,5 @@
 // The bytes of a fork, block by block, the blocks that it needs and those that a write takes.
+#![tactic(auto)]
 mod content;
 mod needs;
 

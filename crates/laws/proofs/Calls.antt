@@ -6,21 +6,21 @@ use mathlib.Core.List.{List}
 use native.Mathlib.Omega.{arith}
 use borrow.Author.Tests.{eq-eqb, ne_eqb}
 use Rattle.model.specs.Bytes.{Bytes}
-use Rattle.model.specs.Check.{first_of}
+use Rattle.model.specs.Check.{first_refusal}
 use Rattle.model.specs.Calls.{Call, name_of, fork_given, checks, refuses, carries, known_in, refusal, change, counted, only, reply, lent, answer, after, Fits}
 use Rattle.model.specs.Calls.{Does}
 
-pub first_zero : (a b : ℕ) → a ≡ 0 → first_of a b ≡ b
-unfolding first_of
+pub first_zero : (a b : ℕ) → a ≡ 0 → first_refusal a b ≡ b
+unfolding first_refusal
 first_zero a b h = rw h
 
-pub first_fires : (a b : ℕ) → (a ≡ 0 → ⊥) → first_of a b ≡ a
-unfolding first_of
+pub first_fires : (a b : ℕ) → (a ≡ 0 → ⊥) → first_refusal a b ≡ a
+unfolding first_refusal
 first_fires zero b h = absurd (h refl)
 first_fires (suc a) b h = refl
 
-pub first_alone : (n : ℕ) → first_of n 0 ≡ n
-unfolding first_of
+pub first_alone : (n : ℕ) → first_refusal n 0 ≡ n
+unfolding first_refusal
 first_alone zero = refl
 first_alone (suc n) = refl
 

@@ -31,8 +31,8 @@ times_from (suc k) s b l h =
     ]
 
 pub times_from_le : (k s b : ℕ) → times b (from k s) ≤ 1
-unfolding from times
-times_from_le zero s b = omega arith
+unfolding from
+times_from_le zero s b = unfold times in omega arith
 times_from_le (suc k) s b =
     elim (ℕ_discrete b s) [
       | yes q ↦ rw q (omega (arith, times_head s (from k (suc s)), times_from_out k (suc s) s (omega arith)))

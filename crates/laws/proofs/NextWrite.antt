@@ -36,7 +36,7 @@ use Rattle.laws.proofs.Acceptance.{readable_of}
 use Rattle.laws.proofs.TheEntry.{the_entry, the_entry_lem, the_fork, the_length}
 use Rattle.laws.proofs.Rewrites.{Rewritten, entry_now}
 use Rattle.laws.proofs.Writes.{its, all, free, base, frame, write_rewrites, now_stores, now_many, was_linked}
-use Rattle.laws.proofs.Writes.{left as leftBy, many as manyBy}
+use Rattle.laws.proofs.Writes.{left as left_by, many as many_by}
 use Rattle.laws.proofs.Stored.{Stored}
 use Rattle.laws.proofs.Counts.{grown_end, needed_then}
 
@@ -56,7 +56,7 @@ module _ (image : List ℕ) (acc : Accepted image) (name : List ℕ) (fork : For
   size = size_after g o xs
 
   abbrev many : ℕ
-  many = manyBy image acc name fork o xs changed m
+  many = many_by image acc name fork o xs changed m
 
   abbrev after : List ℕ
   after = all image acc name fork o xs changed m
@@ -74,7 +74,7 @@ module _ (image : List ℕ) (acc : Accepted image) (name : List ℕ) (fork : For
   stored = base image acc name fork o xs changed m
 
   abbrev left : List ℕ
-  left = leftBy image acc name fork o xs changed m
+  left = left_by image acc name fork o xs changed m
 
   abbrev r : Rewritten image acc name m.file.exists fork size after after changed rest left
   r = write_rewrites image acc name fork o xs changed m

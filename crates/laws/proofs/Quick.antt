@@ -10,7 +10,7 @@ use Rattle.model.specs.Lists.{every, any, leading, first, place_of, flat}
 use Rattle.model.specs.Facts.{facts_of, N, A, next_file_number, free_count, blocks_in}
 use Rattle.model.specs.Map.{map_entry}
 use Rattle.model.specs.Directory.{entries, directory_blocks, listing, directory, forks_in, named}
-use Rattle.model.specs.Check.{or_else, first_of, fires1, fires2, fires3, fires4, good_entry, fires6, facts_number, first_four, SoundFacts, Accepted}
+use Rattle.model.specs.Check.{or_else, first_refusal, fires1, fires2, fires3, fires4, good_entry, fires6, facts_number, first_four, SoundFacts, Accepted}
 use Rattle.model.specs.Check.{fires5, fires7, fires8, fires9, fires10, from9, from8, from7, from6, from5, from4, from3, from2, verdict}
 use Rattle.model.specs.declared.VolumeFacts.{VolumeFacts}
 use Rattle.model.specs.Quick.{quick_entries, quick_listing, quick_directory, shows, looked_at}
@@ -249,13 +249,13 @@ four_low image = go (fires1 (length image)) (facts_low (facts_of image) (blocks_
     go false l = l
 
 -- the full check gives the same number, or one of those behind
-pub four_first : (image : List ℕ) → verdict image ≡ first_of (first_four image) (from5 (facts_of image) image)
-unfolding verdict from2 from3 from4 first_four facts_number first_of
+pub four_first : (image : List ℕ) → verdict image ≡ first_refusal (first_four image) (from5 (facts_of image) image)
+unfolding verdict from2 from3 from4 first_four facts_number first_refusal
 four_first image =
     go (fires1 (length image)) (fires2 (facts_of image)) (fires3 (facts_of image) (blocks_in image)) (fires4 (facts_of image)) (from5 (facts_of image) image)
   where
     go : (a b c d : Bool) (r : ℕ)
-        → or_else a 1 (or_else b 2 (or_else c 3 (or_else d 4 r))) ≡ first_of (or_else a 1 (or_else b 2 (or_else c 3 (or_else d 4 0)))) r
+        → or_else a 1 (or_else b 2 (or_else c 3 (or_else d 4 r))) ≡ first_refusal (or_else a 1 (or_else b 2 (or_else c 3 (or_else d 4 0)))) r
     go true b c d r = sym (first_fires 1 r (λ z. omega arith))
     go false true c d r = sym (first_fires 2 r (λ z. omega arith))
     go false false true d r = sym (first_fires 3 r (λ z. omega arith))

@@ -12,7 +12,7 @@ use Rattle.model.specs.Lists.{any, keep}
 use Rattle.model.specs.Bytes.{byte}
 use Rattle.model.specs.Facts.{facts_of, A, next_file_number, free_count, is_locked}
 use Rattle.model.specs.Directory.{padded, directory_blocks, directory, fork_of, flags_lock, block_count, named}
-use Rattle.model.specs.Check.{or_else, first_of, verdict, Accepted}
+use Rattle.model.specs.Check.{or_else, first_refusal, verdict, Accepted}
 use Rattle.model.specs.Calls.{Call, Known, name_of, fork_given, grown, needed, needed_blocks, bad_name, too_long, checks, refuses, entry_named, has_room}
 use Rattle.model.specs.Calls.{known_in, refusal}
 use Rattle.model.specs.Calls.{same_size, removed, change, after}
@@ -191,8 +191,8 @@ pub record MayRename (image name new : List ℕ) : Type 0 where
       → any (has_room (padded (51 + length new))) (removed name (directory_blocks (facts_of image) image)) ≡ true
 
 -- both numbers are 0 where the answer is
-both_zero : (m n : ℕ) → first_of m n ≡ 0 → (m ≡ 0) × (n ≡ 0)
-unfolding first_of
+both_zero : (m n : ℕ) → first_refusal m n ≡ 0 → (m ≡ 0) × (n ≡ 0)
+unfolding first_refusal
 both_zero zero n h = (refl, h)
 both_zero (suc m) n h = absurd (omega arith)
 

@@ -27,7 +27,7 @@ use Rattle.laws.proofs.Refusals.{MayWrite, needs}
 use Rattle.laws.proofs.Acceptance.{area, readable_of}
 use Rattle.laws.proofs.TheEntry.{the_fork}
 use Rattle.laws.proofs.Writes.{its, was_room, write_accepted, now_many, now_blocks, now_once, now_inside, now_holds}
-use Rattle.laws.proofs.Writes.{left as leftBy}
+use Rattle.laws.proofs.Writes.{left as left_by}
 use Rattle.laws.proofs.Twice.{fork_twice, rewritten_twice}
 use Rattle.laws.proofs.Stored.{Stored, stored_one, stored_then}
 use Rattle.laws.proofs.NextWrite.{write_stored, left_facts, left_fork, left_file, left_free, left_directory, left_within, left_count, left_needs}
@@ -62,7 +62,7 @@ module _ (image : List ℕ) (acc : Accepted image) (name : List ℕ) (fork : For
 
   -- the image between
   abbrev mid : List ℕ
-  mid = leftBy image acc name fork o xs changed first_may
+  mid = left_by image acc name fork o xs changed first_may
 
   pub mid_accepted : Accepted mid
   mid_accepted = write_accepted image acc name fork o xs changed first_may
@@ -90,10 +90,10 @@ module _ (image : List ℕ) (acc : Accepted image) (name : List ℕ) (fork : For
   g₂ = its mid mid_accepted name fork q ys changed second_may
 
   abbrev left₂ : List ℕ
-  left₂ = leftBy mid mid_accepted name fork q ys changed second_may
+  left₂ = left_by mid mid_accepted name fork q ys changed second_may
 
   abbrev left : List ℕ
-  left = leftBy image acc name fork o (xs ++ ys) changed m
+  left = left_by image acc name fork o (xs ++ ys) changed m
 
   -- lengths, number of blocks taken and blocks of the first write and of the whole
   abbrev size₁ : ℕ

@@ -12,7 +12,7 @@ use Rattle.model.specs.Bytes.{byte}
 use Rattle.model.specs.Facts.{facts_of, N, A, next_file_number, free_count, is_locked, blocks_in}
 use Rattle.model.specs.Map.{map_entry}
 use Rattle.model.specs.Directory.{directory, fork_of, forks_in, named, flags_lock}
-use Rattle.model.specs.Check.{or_else, first_of, verdict, from2, from3, from4, from5, from6, from7, from8, from9, Accepted}
+use Rattle.model.specs.Check.{or_else, first_refusal, verdict, from2, from3, from4, from5, from6, from7, from8, from9, Accepted}
 use Rattle.model.specs.Check.{fires1, fires2, fires3, fires4, fires5, fires6, fires7, fires8, fires9, fires10}
 use Rattle.model.specs.Calls.{name_of, fork_given, needed_blocks, bad_name, checks, refuses, entry_named, known_in, refusal}
 use Rattle.model.specs.Calls.Call.{write, cut}
@@ -23,25 +23,25 @@ use Rattle.laws.proofs.Refusals.{no_check, other, other_change, fires, GoodName,
 -- ---- numbers
 
 -- one test more behind a run of them
-first_then : (v a b c : ℕ) → c ≡ first_of a b → first_of v c ≡ first_of (first_of v a) b
-unfolding first_of
+first_then : (v a b c : ℕ) → c ≡ first_refusal a b → first_refusal v c ≡ first_refusal (first_refusal v a) b
+unfolding first_refusal
 first_then zero a b c e = e
 first_then (suc v) a b c e = refl
 
-else_then : (t : Bool) (k a b c : ℕ) → c ≡ first_of a b → or_else t (suc k) c ≡ first_of (or_else t (suc k) a) b
-unfolding first_of
+else_then : (t : Bool) (k a b c : ℕ) → c ≡ first_refusal a b → or_else t (suc k) c ≡ first_refusal (or_else t (suc k) a) b
+unfolding first_refusal
 else_then true k a b c e = refl
 else_then false k a b c e = e
 
-first_17 : (n r : ℕ) → (n ≡ 17 → ⊥) → first_of n r ≡ 17 → (n ≡ 0) × (r ≡ 17)
-unfolding first_of
+first_17 : (n r : ℕ) → (n ≡ 17 → ⊥) → first_refusal n r ≡ 17 → (n ≡ 0) × (r ≡ 17)
+unfolding first_refusal
 first_17 zero r h e = (refl, e)
 first_17 (suc n) r h e = absurd (h e)
 
 -- where the first number is neither 0 nor 17, the room has no say
-first_other : (n : ℕ) (t t' : Bool) → (first_of n (or_else t 17 0) ≡ 0 → ⊥) → (first_of n (or_else t 17 0) ≡ 17 → ⊥)
-    → first_of n (or_else t' 17 0) ≡ first_of n (or_else t 17 0)
-unfolding first_of
+first_other : (n : ℕ) (t t' : Bool) → (first_refusal n (or_else t 17 0) ≡ 0 → ⊥) → (first_refusal n (or_else t 17 0) ≡ 17 → ⊥)
+    → first_refusal n (or_else t' 17 0) ≡ first_refusal n (or_else t 17 0)
+unfolding first_refusal
 first_other zero true t' z f = absurd (f refl)
 first_other zero false t' z f = absurd (z refl)
 first_other (suc n) t t' z f = refl
@@ -73,8 +73,8 @@ module _ (image name : List ℕ) (fork : Fork) (o changed : ℕ) where
   abbrev full : ℕ → Bool
   full count = ltb (free_count (facts_of image)) (needs image name fork o count)
 
-  as_cut : (xs : List ℕ) → refusal (write name fork o xs changed) image ≡ first_of ahead (or_else (full (length xs)) 17 0)
-  unfolding refusal checks refuses known_in name_of fork_given first_of needed_blocks
+  as_cut : (xs : List ℕ) → refusal (write name fork o xs changed) image ≡ first_refusal ahead (or_else (full (length xs)) 17 0)
+  unfolding refusal checks refuses known_in name_of fork_given first_refusal needed_blocks
   as_cut xs =
       let r = or_else (full (length xs)) 17 0 in
       first_then (verdict image) _ r _ (else_then (is_locked (facts_of image)) 10 _ r _ (else_then (bad_name name) 11 _ r _
@@ -82,19 +82,19 @@ module _ (image name : List ℕ) (fork : Fork) (o changed : ℕ) where
       (else_then (ltb (fork_of fork (entry_named name image)).logical o) 15 0 r r refl)))))
 
   ahead_never : ahead ≡ 17 → ⊥
-  unfolding refusal checks refuses known_in name_of fork_given first_of
+  unfolding refusal checks refuses known_in name_of fork_given first_refusal
   ahead_never = go (verdict image) (verdict_never image)
     where
       own : ℕ
       own = refuses (cut name fork o changed) (known_in image name fork)
 
-      go : (v : ℕ) → (v ≡ 17 → ⊥) → first_of v own ≡ 17 → ⊥
+      go : (v : ℕ) → (v ≡ 17 → ⊥) → first_refusal v own ≡ 17 → ⊥
       go zero n e = other_change name (known_in image name fork) (other (ltb (fork_of fork (entry_named name image)).logical o) 16 refl no_check) e
       go (suc v) n e = n e
 
   -- all tests before 17 pass
   pub cut_passes : Accepted image → MayChangeFork image name fork o → refusal (cut name fork o changed) image ≡ 0
-  unfolding refusal checks refuses known_in name_of fork_given first_of
+  unfolding refusal checks refuses known_in name_of fork_given first_refusal
   cut_passes acc m =
       rw (
         accepted_verdict image acc,
@@ -108,12 +108,12 @@ module _ (image name : List ℕ) (fork : Fork) (o changed : ℕ) where
   -- then the room alone decides
   pub write_served : (xs : List ℕ) → refusal (cut name fork o changed) image ≡ 0 → needs image name fork o (length xs) ≤ free_count (facts_of image)
       → refusal (write name fork o xs changed) image ≡ 0
-  unfolding first_of
+  unfolding first_refusal
   write_served xs z h = as_cut xs ∙ rw (z, le-ltb (free_count (facts_of image)) (needs image name fork o (length xs)) h)
 
   pub write_full : (xs : List ℕ) → refusal (cut name fork o changed) image ≡ 0 → free_count (facts_of image) < needs image name fork o (length xs)
       → refusal (write name fork o xs changed) image ≡ 17
-  unfolding first_of
+  unfolding first_refusal
   write_full xs z h = as_cut xs ∙ rw (z, lt-ltb (free_count (facts_of image)) (needs image name fork o (length xs)) h)
 
   pub full_shows : (xs : List ℕ) → refusal (write name fork o xs changed) image ≡ 17

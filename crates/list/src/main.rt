@@ -1,4 +1,5 @@
 // Lists a volume: an image on standard input, a line for the volume and one for each file on standard output.
+#![tactic(auto)]
 ghost use Rattle.std.specs.Prelude.{◌≡◌, length};
 
 use model::{DirectoryEntry, VolumeFacts};

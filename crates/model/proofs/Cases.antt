@@ -16,7 +16,7 @@ use Rattle.model.specs.Directory.{padded, entry_size, in_use, ends_at, next_plac
 use Rattle.model.specs.Directory.{number_in, name_in, finder_in, fork_in, fork_of, wide, entry_in, no_entry, flags_lock, forks_in, block_count, fork_blocks}
 use Rattle.model.specs.Directory.{owned_blocks, letters, accents, pairs, is_pair, paired, same_byte, same_name, named}
 use Rattle.model.specs.Check.{fires1, fires2, fires3, fires4, fires5, good_entry, fires6, good_number, fires7, empty_fork, full_fork, good_fork, shares_none}
-use Rattle.model.specs.Check.{or_else, first_of, fires8, fires9, fires10, facts_number, first_four}
+use Rattle.model.specs.Check.{or_else, first_refusal, fires8, fires9, fires10, facts_number, first_four}
 use Rattle.model.specs.Check.{from9, from8, from7, from6, from5, from4, from3, from2, verdict}
 use Rattle.model.specs.Quick.{quick_entries, quick_listing, quick_directory, shows, looked_at, blocks_looked}
 use Rattle.model.specs.Container.{inside, tags, turned, added, summed, checksum, tag_checksum, bad_size, bad_header, fires22, fires23, fires24}
@@ -44,7 +44,7 @@ use Rattle.model.proofs.Names.{unpaired, only_itself, lower_twin, upper_twin}
 -- all that a case computes through, opened by one name
 unfoldable pub everything : Unit {0}
 unfolding every any distinct keep leading first place_of flat from times first_or0
-    be16 be32 first_of
+    be16 be32 first_refusal
     facts_in facts_of clump is_locked no_facts
     joined first_byte second_byte map_entry set_entry is_block sort_of is_bad runs chain_blocks blocks_free behind put_chain put_free
     three_bytes entries_in bytes_for
@@ -79,15 +79,15 @@ gives_392 image l e = rw (facts_of_lem image (info800 392) e, l)
 
 -- ---- files of a header, data and tags
 
-fires_first : (n rest : ℕ) → first_of (suc n) rest ≡ suc n
-unfolding first_of
+fires_first : (n rest : ℕ) → first_refusal (suc n) rest ≡ suc n
+unfolding first_refusal
 fires_first n rest = refl
 
-passes_first : (rest : ℕ) → first_of 0 rest ≡ rest
-unfolding first_of
+passes_first : (rest : ℕ) → first_refusal 0 rest ≡ rest
+unfolding first_refusal
 passes_first rest = refl
 
-none_first : first_of 0 0 ≡ 0
+none_first : first_refusal 0 0 ≡ 0
 none_first = passes_first 0
 
 module _ (header content behind : List ℕ) (h : length header ≡ 84) (l : length content ≡ 409600) where
@@ -128,9 +128,9 @@ module _ (header content behind : List ℕ) (h : length header ≡ 84) (l : leng
       (simp (e, fires_first n own, eqb-suc-zero n), simp (e, fires_first n own, eqb-suc-zero n))
 
   -- the number is the call's on the data
-  inner_number : (call : Call) → container_verdict file ≡ 0 → first_of (container_verdict file) (refusal call (inside file)) ≡ refusal call content
+  inner_number : (call : Call) → container_verdict file ≡ 0 → first_refusal (container_verdict file) (refusal call (inside file)) ≡ refusal call content
   inner_number call e =
-      ap (λ (k : ℕ). first_of k (refusal call (inside file))) e ∙ passes_first (refusal call (inside file)) ∙ ap (refusal call) the_data
+      ap (λ (k : ℕ). first_refusal k (refusal call (inside file))) e ∙ passes_first (refusal call (inside file)) ∙ ap (refusal call) the_data
 
   pub with_new : (new : List ℕ) (sum : ℕ) → checksum new ≡ sum → renewed file new ≡ sets (header ++ (new ++ behind)) 72 (bytes32 sum)
   unfolding renewed with_data
@@ -190,7 +190,7 @@ wrapped_row : (name header : List ℕ) (format sum : ℕ) → header_for name fo
     → Right (wraps name format sum header)
 unfolding Right answer after refusal checks refuses reply change wrapping
 wrapped_row name header format sum q fits image buffer l v s b =
-    let first : first_of (or_else (bad_lengths (length image) (length buffer) (length name)) 22 (verdict image)) 0 ≡ 0 = rw (l, b, fits, v) none_first in
+    let first : first_refusal (or_else (bad_lengths (length image) (length buffer) (length name)) 22 (verdict image)) 0 ≡ 0 = rw (l, b, fits, v) none_first in
     (rw (first, s, q), rw first)
 
 containers_right : AllRight containers

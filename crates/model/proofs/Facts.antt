@@ -25,7 +25,7 @@ pub facts_are : (v : List ℕ) (f : VolumeFacts)
     → f.name ≡ part 37 27 v
     → f ≡ facts_in v
 unfolding facts_in
-facts_are v f signature created backup attributes files start length blocks size clump first next free nameLength name = λ i. record {
+facts_are v f signature created backup attributes files start length blocks size clump first next free title name = λ i. record {
   signature = signature i;
   created = created i;
   backup = backup i;
@@ -39,6 +39,6 @@ facts_are v f signature created backup attributes files start length blocks size
   allocation_start = record { 0 = first i };
   next_number = next i;
   free_blocks = free i;
-  name_length = nameLength i;
+  name_length = title i;
   name = name i;
 }

@@ -106,8 +106,8 @@ module _ (e : ℕ → ℕ) (n : ℕ) where
 
   -- a chain never repeats a block
   pub chain_once : (k s b : ℕ) → runs e n k s ≡ true → times b (chain_blocks e k s) ≤ 1
-  unfolding chain_blocks times
-  chain_once zero s b h = omega arith
+  unfolding chain_blocks
+  chain_once zero s b h = unfold times in omega arith
   chain_once (suc k) s b h =
       elim (ℕ_discrete b s) [
         | yes q ↦ elim (ℕ_discrete (times s (chain_blocks e k (e s))) 0) [

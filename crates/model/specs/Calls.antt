@@ -8,7 +8,7 @@ use Rattle.model.specs.Facts.{facts_of, dir_start, dir_length, N, A, S, clump, n
 use Rattle.model.specs.Map.{map_entry, blocks_free, put_chain, put_free}
 use Rattle.model.specs.Directory.{size_for, entries, read_end, directory_blocks, directory, fork_place, fork_of, entry_in, no_entry, flags_lock, block_count}
 use Rattle.model.specs.Directory.{fork_blocks, named}
-use Rattle.model.specs.Check.{or_else, first_of, first_four, verdict}
+use Rattle.model.specs.Check.{or_else, first_refusal, first_four, verdict}
 use Rattle.model.specs.Quick.{quick_directory, blocks_looked}
 use Rattle.model.specs.Container.{bad_lengths, wrapping}
 use Rattle.model.specs.declared.VolumeFacts.{VolumeFacts}
@@ -573,7 +573,7 @@ serves_wrapped call = (meaning call).wrapped
 
 -- Every call runs 1 to 10. Then its own. (Wrap has 22 before 1, and quick find runs 1 to 4 alone.)
 unfoldable pub refusal : Call → List ℕ → ℕ
-refusal call image = let own = refuses call (known_in image (name_of call) (fork_given call)) in first_of (checks call image) own
+refusal call image = let own = refuses call (known_in image (name_of call) (fork_given call)) in first_refusal (checks call image) own
 
 -- A refusal gives its number, all other results are zero (but for the count beside quick find's 13), and no lent byte changes.
 unfoldable pub answer : Call → List ℕ → Answer

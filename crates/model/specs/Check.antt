@@ -95,9 +95,9 @@ abbrev pub or_else : Bool → ℕ → ℕ → ℕ
 or_else fires number rest = cond fires number rest
 
 -- the first number, unless it is 0; then the second
-unfoldable pub first_of : ℕ → ℕ → ℕ
-first_of zero b = b
-first_of (suc a) b = suc a
+unfoldable pub first_refusal : ℕ → ℕ → ℕ
+first_refusal zero b = b
+first_refusal (suc a) b = suc a
 
 -- checks 2 to 4, and 1 to 4: those that the image's length and the volume information decide
 unfoldable pub facts_number : VolumeFacts → ℕ → ℕ

@@ -1,13 +1,13 @@
 -- The nine calls on a wrapped file (document 02, T-02), where the caller says that the file is wrapped.
 use Rattle.std.specs.Prelude.{ℕ, ◌≡◌, true, cond, List, eqb}
 use Rattle.model.specs.Bytes.{Bytes}
-use Rattle.model.specs.Check.{first_of}
+use Rattle.model.specs.Check.{first_refusal}
 use Rattle.model.specs.Container.{inside, container_verdict, renewed}
 use Rattle.model.specs.Calls.{Call, Answer, only, lent, Fits, serves_wrapped, refusal, reply, change}
 
 -- Refusals: 22, 23, 24, in that order before 1; then those of the call on the data inside.
 unfoldable pub file_refusal : Call → List ℕ → ℕ
-file_refusal call file = let own = refusal call (inside file) in first_of (container_verdict file) own
+file_refusal call file = let own = refusal call (inside file) in first_refusal (container_verdict file) own
 
 -- A refusal gives its number, all other results are zero, and no lent byte changes; else the call answers as on the data inside.
 unfoldable pub file_answer : Call → List ℕ → Answer

@@ -1,4 +1,5 @@
 // Carries out the records on standard input over one image, bare or wrapped, and prints a line for each call.
+#![tactic(auto)]
 ghost use Rattle.std.specs.Prelude.{◌≡◌, length};
 
 mod calls;

@@ -1,4 +1,5 @@
 // A line of text, put together in a lent array and written whole. What the array has no room for is left out.
+#![tactic(auto)]
 ghost use Rattle.std.specs.Prelude.{◌≡◌, length};
 
 // The most bytes of a line, its end among them.
