@@ -1,6 +1,7 @@
 // The allocation block map: its 12-bit entries read, stored and sorted, checks 5, 9 and 10 over all of them, chains walked and
 // marked, which is check 8 of a fork, blocks allocated and freed.
 #![tactic(auto)]
+
 mod allocate;
 mod chain;
 mod free;

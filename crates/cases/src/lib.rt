@@ -1,5 +1,6 @@
 // More worked cases, apart from model so that its check stays short.
 #![tactic(auto)]
+
 ghost use Rattle.cases.specs.More.{MoreCases};
 ghost use Rattle.cases.specs.WholeFile.{WholeFile};
 

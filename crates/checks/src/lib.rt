@@ -12,7 +12,7 @@ pub use limits::{bad_length, facts_number};
 pub use verdict::judge;
 
 // What is compared of two entries.
-#[derive(Drop)]
+#[derive(Clone, Copy)]
 pub enum Field {
     Number,
     Name,

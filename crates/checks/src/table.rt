@@ -18,7 +18,7 @@ pub const SLOTS: usize = 6400;
 pub const LIMIT: usize = 0xffff_ffff;
 
 // What the table has for an entry.
-#[derive(Drop)]
+#[derive(Clone, Copy)]
 pub enum Slot {
     // The free slot for it: no entry of the table is the same.
     Free(usize),
@@ -29,7 +29,7 @@ pub enum Slot {
 }
 
 // What the table tells of the entries.
-#[derive(Drop)]
+#[derive(Clone, Copy)]
 pub enum Compared {
     Differ,
     Repeated,

@@ -8,7 +8,7 @@ use directory::{Cursor, EntryAt, Step, number_of};
 
 // Whether check 6 fires, and where it does not, how many entries there are and whether each file number is above 0 and below
 // the next one.
-#[derive(Drop)]
+#[derive(Clone, Copy)]
 pub struct Tally {
     pub bad: bool,
     pub count: usize,

@@ -1,6 +1,7 @@
 // The directory: its entries in order, the fields of an entry, names compared without case, entries found by name and by place, and a name
 // found in a directory that was not checked.
 #![tactic(auto)]
+
 mod fields;
 mod folds;
 mod names;
@@ -17,7 +18,7 @@ pub use quick::quick_locate;
 pub use search::{entry_at, locate};
 
 // A place in the directory's reading.
-#[derive(Drop)]
+#[derive(Clone, Copy)]
 pub struct Cursor {
     // The byte of the image where the directory block starts.
     pub base: usize,
@@ -28,7 +29,7 @@ pub struct Cursor {
 }
 
 // An entry that was read.
-#[derive(Drop)]
+#[derive(Clone, Copy)]
 pub struct EntryAt {
     // The byte of the image where it starts.
     pub start: usize,
@@ -36,7 +37,7 @@ pub struct EntryAt {
 }
 
 // What the reading finds at a cursor.
-#[derive(Drop)]
+#[derive(Clone, Copy)]
 pub enum Step {
     // The next entry, and the cursor behind it.
     Entry(EntryAt, Cursor),
@@ -47,14 +48,14 @@ pub enum Step {
 }
 
 // What it finds in a directory that passed check 6.
-#[derive(Drop)]
+#[derive(Clone, Copy)]
 pub enum Advance {
     Entry(EntryAt, Cursor),
     End,
 }
 
 // What a search finds.
-#[derive(Drop)]
+#[derive(Clone, Copy)]
 pub enum Found {
     // The entry, with its place in directory order.
     At(usize, EntryAt),
@@ -62,7 +63,7 @@ pub enum Found {
 }
 
 // What a search of one directory block finds.
-#[derive(Drop)]
+#[derive(Clone, Copy)]
 pub enum BlockSearch {
     // The entry, with its place in the block.
     At(usize, EntryAt),
@@ -71,7 +72,7 @@ pub enum BlockSearch {
 }
 
 // What a search of the directory blocks, one after another, finds.
-#[derive(Drop)]
+#[derive(Clone, Copy)]
 pub enum QuickSearch {
     // The entry, its place among those read, and the number of blocks looked at.
     At(usize, EntryAt, usize),

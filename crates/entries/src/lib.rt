@@ -18,7 +18,7 @@ pub use title::{kept_head, rename_entry};
 pub use without::find_room_without;
 
 // Where an entry to be put in has room.
-#[derive(Drop)]
+#[derive(Clone, Copy)]
 pub enum Space {
     // The byte of the image where the directory block starts, and how far into the block its reading ends.
     At(usize, usize),

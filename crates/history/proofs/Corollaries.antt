@@ -192,7 +192,7 @@ module _ (image left : List ℕ) (call : Call) (given : Answer) (x : File) (s : 
     unfolding touched
     aside_dates c =
         let same : left ≡ image = s.still (rw c.unchanging) in
-        let not : (n : Bool) → (n && false) ≡ false = λ n. elim n [ true ↦ refl | false ↦ refl ] in (
+        let not : (n : Bool) → (n && false) ≡ false = λ n. elim n as (λ m. (m && false) ≡ false) [ true ↦ refl | false ↦ refl ] in (
           λ t. (λ i. rw same at i, λ i. rw same i),
           λ t. absurd (so_not _ (not (eqb given.number 0)) (rw (c.untouching x.name) at t)),
         )

@@ -1,5 +1,6 @@
 // The claim on every list of calls, what follows from it for the auditor, writes in parts, and quick find beside find.
 #![tactic(auto)]
+
 ghost use Rattle.history.specs.Dates.{Dates};
 ghost use Rattle.history.specs.Deleting.{Deleting};
 ghost use Rattle.history.specs.EveryList.{EveryList};

@@ -19,17 +19,17 @@ pub use numbers::{be16_at, be32_at};
 
 // The number of an allocation block: 2 to N + 1.
 #[repr(C)]
-#[derive(Drop)]
+#[derive(Clone, Copy)]
 pub struct AllocationBlock(pub u16);
 
 // The number of a logical block of 512 bytes.
 #[repr(C)]
-#[derive(Drop)]
+#[derive(Clone, Copy)]
 pub struct LogicalBlock(pub u32);
 
 // The facts of the volume information.
 #[repr(C)]
-#[derive(Drop)]
+#[derive(Clone, Copy)]
 pub struct VolumeFacts {
     pub signature: u16,
     pub created: u32,
@@ -49,7 +49,7 @@ pub struct VolumeFacts {
 }
 
 // What a map entry says of its block.
-#[derive(Drop)]
+#[derive(Clone, Copy)]
 pub enum MapValue {
     Free,
     Last,
@@ -58,7 +58,7 @@ pub enum MapValue {
 }
 
 // Three bytes of the map, AB CD EF ..
-#[derive(Drop)]
+#[derive(Clone, Copy)]
 pub struct ThreeBytes {
     pub ab: u8,
     pub cd: u8,
@@ -66,14 +66,14 @@ pub struct ThreeBytes {
 }
 
 // .. and the two entries that they hold: the first is ABC, the second DEF.
-#[derive(Drop)]
+#[derive(Clone, Copy)]
 pub struct TwoEntries {
     pub first: u16,
     pub second: u16,
 }
 
 // A call's choice of fork.
-#[derive(Drop)]
+#[derive(Clone, Copy)]
 pub enum Fork {
     Data,
     Resource,
@@ -81,7 +81,7 @@ pub enum Fork {
 
 // A fork's fields in a directory entry.
 #[repr(C)]
-#[derive(Drop)]
+#[derive(Clone, Copy)]
 pub struct ForkFacts {
     pub start: AllocationBlock,
     pub logical: u32,
@@ -90,7 +90,7 @@ pub struct ForkFacts {
 
 // A directory entry, its name zero behind its length.
 #[repr(C)]
-#[derive(Drop)]
+#[derive(Clone, Copy)]
 pub struct DirectoryEntry {
     pub flags: u8,
     pub version: u8,

@@ -20,14 +20,14 @@ fn empty() -> [u8; MOST]
 }
 
 // What the image is: a volume as it stands, or a wrapped file.
-#[derive(Drop)]
+#[derive(Clone, Copy)]
 pub enum Form {
     Bare,
     Wrapped,
 }
 
 // What a record leaves: the image's length and form, or the run's end.
-#[derive(Drop)]
+#[derive(Clone, Copy)]
 pub enum Next {
     Go(usize, Form),
     Stop,

@@ -6,39 +6,39 @@ use model::Fork;
 // The most bytes of a name.
 const MOST_NAME: usize = 1_024;
 
-#[derive(Drop)]
+#[derive(Clone, Copy)]
 pub enum Tag {
     Is(u8),
     End,
 }
 
 // A number or a length. At Stop the run ends, and what it prints for that is printed.
-#[derive(Drop)]
+#[derive(Clone, Copy)]
 pub enum Field {
     Is(u64),
     Stop,
 }
 
-#[derive(Drop)]
+#[derive(Clone, Copy)]
 enum ForkField {
     Is(Fork),
     Stop,
 }
 
-#[derive(Drop)]
+#[derive(Clone, Copy)]
 pub enum ByteField {
     Is(u8),
     Stop,
 }
 
-#[derive(Drop)]
+#[derive(Clone, Copy)]
 pub enum DateField {
     Is(u32),
     Stop,
 }
 
 // The length of a name, a fork of its file, and a place or an offset in that fork.
-#[derive(Drop)]
+#[derive(Clone, Copy)]
 pub enum PlaceField {
     Is(u64, Fork, u64),
     Stop,

@@ -1,5 +1,6 @@
 // Worked cases of the later requests, apart from model and cases so that each check stays short.
 #![tactic(auto)]
+
 ghost use Rattle.request_cases.specs.Clumps.{ClumpCases};
 ghost use Rattle.request_cases.specs.QuickFinds.{QuickCases};
 

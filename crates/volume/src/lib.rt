@@ -19,7 +19,7 @@ pub use reading::{block, entry, find, read};
 pub use wrapping::wrap;
 
 // What any call gives back: what its answer does not tell is zero. The count is read's, or quick find's of directory blocks.
-#[derive(Drop)]
+#[derive(Clone, Copy)]
 pub struct Outcome {
     pub number: u8,
     pub facts: VolumeFacts,
@@ -30,7 +30,7 @@ pub struct Outcome {
 }
 
 // Each call by its name.
-#[derive(Drop)]
+#[derive(Clone, Copy)]
 pub enum Wanted {
     Check,
     Entry,

@@ -1,0 +1,42 @@
+-- `Cursor::next` meets its contract. The loop's invariant: the entries from c on are those from the given cursor on. The measure
+-- is the number of blocks left. Assumes nothing.
+use Prim.Native.Nat.{◌-◌}
+use mathlib.Core.Path.{◌≡◌, refl, sym, ◌∙◌}
+use native.Mathlib.Omega.{arith}
+use mathlib.Core.Bool.{true}
+use Rattle.model.specs.Directory.{ends_at}
+use Rattle.directory.specs.Cursor.{block_of}
+use Rattle.directory.proofs.Steps.{last_block, next_block, comes_block, stepped_from}
+use Rattle.directory.proofs.Cursor.next.Goals as goal
+
+pub loop-c-init : goal.loop-c-init
+loop-c-init c = (c.requires, refl, omega arith, λ base blocks k. k)
+
+pub ends-requires : goal.ends-requires
+ends-requires c = c.loop-c.invariant.0
+
+pub returns-then-c-eq0 : goal.returns-then-c-eq0
+returns-then-c-eq0 c =
+    let ended : ends_at (block_of c.args.image.now c.loop-c.c) c.loop-c.c.at ≡ true = sym c.ends.ensures ∙ c.loop-c-test.true in
+    let l = c.loop-c in
+    l.invariant.1 ∙ last_block c.args.image.now l.c l.invariant.0 (ended) c.if-c-eq0.true
+
+pub loop-c-preserved : goal.loop-c-preserved
+loop-c-preserved c =
+    let ended : ends_at (block_of c.args.image.now c.loop-c.c) c.loop-c.c.at ≡ true = sym c.ends.ensures ∙ c.loop-c-test.true in
+    let l = c.loop-c in
+    let image = c.args.image.now in (
+      record { blocks = omega arith; place = omega arith },
+      l.invariant.1 ∙ next_block image l.c l.invariant.0 (ended) c.if-c-eq0.false,
+      omega arith,
+      λ base blocks k. comes_block image l.c base blocks c.if-c-eq0.false (l.invariant.3 base blocks k),
+    )
+
+pub entry-requires : goal.entry-requires
+entry-requires c = (c.loop-c.invariant.0, sym c.ends.ensures ∙ c.loop-c-test.false)
+
+pub returns : goal.returns
+returns c =
+    let l = c.loop-c in
+    let a = c.args in
+    stepped_from a.image.now l.c a.self l.invariant.1 l.invariant.2 l.invariant.3 c.entry.result c.entry.ensures

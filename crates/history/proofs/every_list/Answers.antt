@@ -1,0 +1,6 @@
+-- `history::every_list` meets its contract.
+use Rattle.history.proofs.Corollaries.{every_list}
+use Rattle.history.proofs.every_list.Goals as goal
+
+pub returns : goal.returns
+returns c = every_list
