@@ -1,6 +1,6 @@
 -- What the auditor asks, from the claim on every run: a file that no call names stays, a delete touches no other file, a rename
 -- changes a name and a date alone, no date is made up, "disk full" means no room, a read gives what was written, and no list of calls falls out of the claim.
-use Prim.Native.Nat.{ℕ, ◌+◌, ◌-◌, ◌≤◌, ◌<◌}
+use Prim.Native.Nat.{ℕ, ◌+◌, ◌≤◌, ◌<◌}
 use mathlib.Core.Path.{◌≡◌, refl, sym, ap, subst, ◌∙◌}
 use mathlib.Core.Bool.{Bool, true, false, not, ◌&&◌, cond}
 use mathlib.Core.List.{List, [], ◌∷◌, ◌++◌, map, append_assoc, append-nil}
@@ -10,7 +10,7 @@ use lib.ListN.{length, drop, length-append}
 use lib.Seq.{drop-length}
 use lib.Dec.{eqb, ltb}
 use borrow.Author.Tests.{not-false, eqb-true, eq-eqb, ltb-false, le-ltb}
-use Rattle.model.specs.Lists.{any, flat, none, Reordered}
+use Rattle.model.specs.Lists.{any, flat, Reordered}
 use Rattle.model.specs.Bytes.{Bytes, part}
 use Rattle.model.specs.Facts.{facts_of, N, A, clump, free_count}
 use Rattle.model.specs.Map.{map_entry}

@@ -7,8 +7,8 @@ use mathlib.Core.Logic.{◌⊎◌, inl, inr}
 use native.Mathlib.Decide.{ℕ_discrete}
 use lib.Dec.{eqb, eqb-suc-zero}
 use borrow.Author.Tests.{eqb-true, eq-eqb, ne_eqb}
-use Rattle.model.specs.Check.{verdict, Accepted}
-use Rattle.model.specs.Calls.{Call, name_of, fork_given, checks, refuses, carries, known_in, refusal, change, counted, only, reply, lent, answer, Does}
+use Rattle.model.specs.Check.{Accepted}
+use Rattle.model.specs.Calls.{Call, name_of, fork_given, refuses, carries, known_in, refusal, change, counted, only, reply, lent, answer, Does}
 use Rattle.history.specs.History.{History, declines, moves, step, says, tells, told_by, told_only, asked, compared, Agrees, reading}
 use Rattle.history.specs.History.{Told, Event, Run, is18, RoomRule, InStep, Holds, EveryRun}
 use Rattle.model.proofs.Lists.{so_not}

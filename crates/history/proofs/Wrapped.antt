@@ -18,12 +18,12 @@ use Rattle.laws.proofs.Calls.{first_alone}
 use Rattle.laws.proofs.Containers.{inside_length, inside_bytes, renewed_same, renewed_length, renewed_inside, renewed_kept, renewed_sound}
 use Rattle.laws.proofs.Containers.{renewed_bytes, sound, content, no_tags}
 use Rattle.laws.proofs.Wrapped.{inner_answer, left_is}
-use Rattle.history.specs.History.{History, Event, Agrees, Run, reading, step, is18, changes, InStep, Holds, EveryRun}
+use Rattle.history.specs.History.{History, Event, Agrees, Run, reading, step, is18, changes, InStep}
 use Rattle.history.specs.WrappedRuns.{within, WrappedRun, Outside, WrappedStep, WrappedHolds, WrappedRuns, made_wrapped, AllServe, EveryWrappedList}
 use Rattle.history.specs.EveryList.{AllFit}
 use Rattle.history.specs.Wrapping.{Wrapping}
 use Rattle.history.proofs.Lawful.{lawful}
-use Rattle.history.proofs.Run.{number_is, event, every_run}
+use Rattle.history.proofs.Run.{number_is, event}
 use Rattle.history.proofs.Reading.{starts}
 
 -- ---- one event

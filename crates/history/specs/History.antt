@@ -1,6 +1,6 @@
 -- The history, which knows no image, map or directory block; how it follows each call; how an image reads as facts and files;
 -- what must hold after each event of a run; and the claim on every run.
-use Rattle.std.specs.Prelude.{ℕ, zero, suc, ◌+◌, ◌-◌, ◌*◌, ◌/◌, ◌%◌, ◌≤◌, ◌<◌, max, ◌≡◌, Bool, true, false, ◌&&◌, ◌||◌, not, cond, List, [], ◌∷◌, ◌++◌, map, ◌↔◌, length, get_or, take, drop, eqb, leb}
+use Rattle.std.specs.Prelude.{ℕ, ◌+◌, ◌-◌, ◌*◌, ◌≤◌, ◌<◌, max, ◌≡◌, Bool, true, false, ◌&&◌, ◌||◌, not, cond, List, [], ◌∷◌, ◌++◌, map, ◌↔◌, length, get_or, take, eqb, leb}
 use Rattle.model.specs.Lists.{any, keep, first, Reordered, times}
 use Rattle.model.specs.Bytes.{byte, be32, half, Within, overwritten, Bytes}
 use Rattle.model.specs.Facts.{facts_of, dir_start, dir_length, N, A, S, clump, next_file_number, free_count, is_locked, block_byte, with_counts, no_facts}

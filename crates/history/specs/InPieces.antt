@@ -2,7 +2,7 @@
 use Rattle.std.specs.Prelude.{ℕ, ◌+◌, ◌≡◌, List, [], ◌∷◌, length}
 use Rattle.model.specs.Lists.{flat}
 use Rattle.model.specs.Check.{Accepted}
-use Rattle.model.specs.Calls.{Call, Answer, Does}
+use Rattle.model.specs.Calls.{Answer, Does}
 use Rattle.model.specs.Calls.Call.{read, write}
 use Rattle.history.specs.History.{Event, Run}
 use Rattle.history.specs.Among.{last_image}

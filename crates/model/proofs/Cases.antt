@@ -1,5 +1,5 @@
 -- The tables of worked cases hold: antt computes them.
-use Prim.Native.Nat.{ℕ, zero, suc, ◌+◌, ◌-◌, ◌*◌, ◌/◌, ◌%◌}
+use Prim.Native.Nat.{ℕ, suc, ◌+◌}
 use mathlib.Core.Path.{◌≡◌, refl, sym, ap, ◌∙◌}
 use mathlib.Core.Bool.{true, false, not}
 use mathlib.Core.List.{List, [], ◌∷◌, ◌++◌}
@@ -27,16 +27,16 @@ use Rattle.model.specs.Calls.{bytes_of, fork_bytes, put_blocks, put_content, rea
 use Rattle.model.specs.Calls.{rewritten, with_fork, with_directory, with_files, with_next, with_free, created, written, shortened, deleted}
 use Rattle.model.specs.Calls.{retitled, renamed_in, renamed, change, only}
 use Rattle.model.specs.Calls.{tells_facts, tells_entry, tells_block, tells_bytes, tells_quick, reply, lent, answer, after}
-use Rattle.model.specs.Cases.{Plan, info, disk, entry_bytes, week_entry, rates_entry, hall_map, hall_plan, hall, hall_by_rules, with_bytes, sample, with_week1}
-use Rattle.model.specs.Cases.{free_count3, ring, info800, Row, Right, AllRight, end, ◌&◌, week_facts, p_cases, PCases, hall_facts, rates_facts, news_entry}
+use Rattle.model.specs.Cases.{info, disk, entry_bytes, week_entry, rates_entry, hall_map, hall_plan, hall, hall_by_rules, with_bytes, sample, with_week1}
+use Rattle.model.specs.Cases.{free_count3, ring, info800, Right, AllRight, end, ◌&◌, week_facts, p_cases, PCases, hall_facts, rates_facts, news_entry}
 use Rattle.model.specs.Cases.{padded_disk, stale_disk, dead_disk, full_week, resource_disk, roomy_disk, long_name, long_disk, two_blocks, tells_read, long_facts}
 use Rattle.model.specs.Cases.{telling, long_names, WEEK1, head_of, head_with, containers, accent_disk, accent_facts, letters_listed, pairs_listed, others_low}
 use Rattle.model.specs.Cases.{others_high, accented, last_pair, threes, flagged, flag_disk, tight_disk, renamings, clump_disk, clumped, quick_disk, apart_disk}
 use Rattle.model.specs.Cases.{versioned, hidden_disk, again_disk, bad_map_disk, news_facts, quick_finds, FurtherCases}
-use Rattle.model.specs.Cases.Row.{does, passes3, gives3, wraps, stops, declines, serves, renews, twins, alone}
-use Rattle.model.specs.Calls.{Call, Answer}
+use Rattle.model.specs.Cases.Row.{passes3, gives3, wraps, stops, declines, serves, renews, twins, alone}
+use Rattle.model.specs.Calls.{Call}
 use Rattle.model.specs.declared.Fork.TheVariants.{Data}
-use Rattle.model.specs.Calls.Call.{check, entry, find, block, read, create, write, cut, delete, wrap, rename}
+use Rattle.model.specs.Calls.Call.{check, read, delete}
 use Rattle.model.specs.Wrapped.{file_refusal, file_answer, file_after}
 use Rattle.model.proofs.Lists.{every_at}
 use Rattle.model.proofs.Names.{unpaired, only_itself, lower_twin, upper_twin}

@@ -1,7 +1,7 @@
 -- The disk HALL, the P cases as one table under one statement, and eight tables of further cases, the second on long names, the
 -- third on wrapped files, the fourth on accents, the fifth on three bytes and two entries, the sixth on rename, the seventh on clumps,
 -- the eighth on quick find.
-use Rattle.std.specs.Prelude.{ℕ, zero, suc, ◌+◌, ◌-◌, ◌*◌, ◌/◌, ◌%◌, ◌<◌, ◌≡◌, Bool, true, false, ◌||◌, List, [], ◌∷◌, ◌++◌, map, eqb, length, get_or, take, drop, replicate}
+use Rattle.std.specs.Prelude.{ℕ, ◌+◌, ◌*◌, ◌/◌, ◌%◌, ◌<◌, ◌≡◌, Bool, true, false, ◌||◌, List, [], ◌∷◌, ◌++◌, map, eqb, length, get_or, take, replicate}
 use Rattle.std.proofs.Math.Seq.{paste}
 use Rattle.model.specs.Lists.{flat, from}
 use Rattle.model.specs.Bytes.{byte, bytes16, bytes32, zeros, part}
@@ -9,14 +9,14 @@ use Rattle.model.specs.Facts.{facts_in, facts_of, clump, blocks_in, no_facts}
 use Rattle.model.specs.Map.{map_entry, set_entry, put_chain, pair_byte, three_bytes, entries_in, bytes_for}
 use Rattle.model.specs.Directory.{no_entry, same_byte}
 use Rattle.model.specs.Check.{fires3, verdict}
-use Rattle.model.specs.Calls.{Call, Answer, taken, lent, refusal, reply, change, counted, only, tells_facts, tells_entry, tells_block, tells_quick}
+use Rattle.model.specs.Calls.{Call, Answer, taken, lent, refusal, reply, change, counted, only, tells_facts, tells_entry, tells_quick}
 use Rattle.model.specs.Calls.{answer, after}
 use Rattle.model.specs.Container.{checksum, tag_checksum, bad_header, bad_lengths, renewed}
-use Rattle.model.specs.Calls.Call.{check, entry, find, block, read, create, write, cut, delete, wrap, rename, quick_find}
+use Rattle.model.specs.Calls.Call.{check, entry, find, read, create, write, cut, delete, wrap, rename, quick_find}
 use Rattle.model.specs.Wrapped.{file_answer, file_after}
 use Rattle.model.specs.declared.VolumeFacts.{VolumeFacts}
 use Rattle.model.specs.declared.DirectoryEntry.{DirectoryEntry}
-use Rattle.model.specs.declared.Fork.TheVariants.{Data, Resource}
+use Rattle.model.specs.declared.Fork.TheVariants.{Data}
 
 -- ---- Disks of N = 5 allocation blocks of 512 bytes, named HALL
 

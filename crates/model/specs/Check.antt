@@ -1,6 +1,6 @@
 -- Checks 1 to 10: each by itself, `verdict`, the first that fires, `first_four`, the same of 1 to 4, and `Accepted`, what holds where none
 -- does.
-use Rattle.std.specs.Prelude.{ℕ, zero, suc, ◌+◌, ◌-◌, ◌*◌, ◌/◌, ◌%◌, ◌≤◌, ◌<◌, ◌≡◌, Bool, true, false, ◌&&◌, ◌||◌, not, cond, List, [], ◌∷◌, ◌↔◌, length, get_or, eqb, leb, ltb}
+use Rattle.std.specs.Prelude.{ℕ, zero, suc, ◌+◌, ◌-◌, ◌*◌, ◌/◌, ◌%◌, ◌≤◌, ◌<◌, ◌≡◌, Bool, false, ◌&&◌, ◌||◌, not, cond, List, [], ◌↔◌, length, get_or, eqb, leb, ltb}
 use Rattle.model.specs.Lists.{every, any, distinct, from, times}
 use Rattle.model.specs.Bytes.{byte}
 use Rattle.model.specs.Facts.{facts_of, dir_start, dir_length, N, A, S, next_file_number, free_count, blocks_in}

@@ -1,5 +1,5 @@
 -- The directory: entries, the reading of a block, the order over all blocks, forks, names without case.
-use Rattle.std.specs.Prelude.{ℕ, zero, suc, ◌+◌, ◌-◌, ◌*◌, ◌/◌, ◌%◌, Bool, true, false, ◌&&◌, ◌||◌, not, List, [], ◌∷◌, ◌++◌, map, length, get_or, take, drop, replicate, eqb, leb}
+use Rattle.std.specs.Prelude.{ℕ, zero, suc, ◌+◌, ◌-◌, ◌*◌, ◌/◌, ◌%◌, Bool, true, false, ◌&&◌, ◌||◌, not, List, [], ◌∷◌, ◌++◌, map, length, take, drop, eqb, leb}
 use Rattle.model.specs.Lists.{any, flat, from}
 use Rattle.model.specs.Bytes.{byte, be16, be32, zeros, part}
 use Rattle.model.specs.Facts.{facts_of, dir_start, dir_length}

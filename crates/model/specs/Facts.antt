@@ -1,5 +1,5 @@
 -- Volume facts, the clump in blocks, and the rule from an allocation block to its first byte.
-use Rattle.std.specs.Prelude.{ℕ, ◌+◌, ◌-◌, ◌*◌, ◌/◌, ◌%◌, Bool, ◌&&◌, ◌||◌, cond, List, length, take, drop, eqb, leb}
+use Rattle.std.specs.Prelude.{ℕ, ◌+◌, ◌-◌, ◌*◌, ◌/◌, ◌%◌, Bool, ◌&&◌, ◌||◌, cond, List, length, drop, eqb, leb}
 use Rattle.model.specs.Bytes.{byte, be16, be32, zeros, part}
 use Rattle.model.specs.declared.VolumeFacts.{VolumeFacts}
 use Rattle.model.specs.declared.LogicalBlock.{LogicalBlock}

@@ -1,5 +1,5 @@
 -- The map: 12-bit entries, their sort, chains, free blocks.
-use Rattle.std.specs.Prelude.{ℕ, zero, suc, ◌+◌, ◌-◌, ◌*◌, ◌/◌, ◌%◌, ◌≤◌, ◌<◌, ◌≡◌, Bool, true, false, ◌&&◌, cond, List, [], ◌∷◌, get_or, set, eqb, leb}
+use Rattle.std.specs.Prelude.{ℕ, zero, suc, ◌+◌, ◌-◌, ◌*◌, ◌/◌, ◌%◌, ◌≤◌, ◌<◌, ◌≡◌, Bool, true, false, ◌&&◌, cond, List, [], ◌∷◌, set, eqb, leb}
 use Rattle.model.specs.Lists.{keep, from}
 use Rattle.model.specs.Bytes.{byte, Bytes}
 use Rattle.model.specs.declared.MapValue.{MapValue}

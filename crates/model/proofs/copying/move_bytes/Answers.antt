@@ -1,5 +1,5 @@
 -- `move_bytes` meets its contract. The invariants: i bytes are held; j of them are stored. Assumes nothing.
-use Prim.Native.Nat.{ℕ, ◌+◌, ◌-◌}
+use Prim.Native.Nat.{ℕ, ◌+◌}
 use mathlib.Core.Path.{◌≡◌, refl, ap, subst, ◌∙◌}
 use native.Mathlib.Omega.{arith}
 use lib.ListN.{set, take, drop, length-set, length-replicate}
