@@ -18,7 +18,7 @@ use Rattle.blockmap.proofs.allocate.extend.Goals as goal
 pub returns-then-k-eq0 : goal.returns-then-k-eq0
 unfolding Bytes
 returns-then-k-eq0 c =
-    let bytes : Bytes c.args.image.now = λ i. omega (arith, c.slice_known-1.given i) in
+    let bytes : Bytes c.args.image.now = λ i. omega (arith, c.type_inv.image i) in
     let unchanged : let a = c.args in let l = a.image.now in
     l ≡ put_chain l (chain_blocks (map_entry l) a.k a.s.0 ++ take a.need (blocks_free (map_entry l) a.n)) = let a = c.args in
     let l = a.image.now in
@@ -102,8 +102,8 @@ join_free-requires-2 c =
     let x = c.next_free-first.result.0 in
     let st = c.store in
     let r = ext_requires a.n a.image.now (a.k - 1) a.s.0 x p.0 p.1 (chain) f
-    c.block_at-last.result.0 st.last.0 a.need (stands) st.ensures p.3 in
-    let big : 2048 ≤ length st.last.0 = omega (arith, p.1, ap length st.ensures, length_set_entry a.image.now c.block_at-last.result.0 x) in
+    c.block_at-last.result.0 st.new.image a.need (stands) st.ensures p.3 in
+    let big : 2048 ≤ length st.new.image = omega (arith, p.1, ap length st.ensures, length_set_entry a.image.now c.block_at-last.result.0 x) in
     (p.0, big, f.low, f.high, r.0, some, r.1)
 
 pub returns : goal.returns
@@ -122,6 +122,6 @@ returns c =
     let st = c.store in record {
       after = c.join_free-2.ensures
           ∙ ext_leaves a.n l (a.k - 1) a.s.0 x p.0 p.1 (chain) f
-          a.k c.block_at-last.result.0 st.last.0 a.need (bytes) (some) (count) (stands) st.ensures;
+          a.k c.block_at-last.result.0 st.new.image a.need (bytes) (some) (count) (stands) st.ensures;
       start = sym (first_old (map_entry l) a.k a.s.0 (take a.need (blocks_free (map_entry l) a.n)) (omega arith));
     }

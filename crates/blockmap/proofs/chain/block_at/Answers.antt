@@ -1,5 +1,4 @@
 -- `block_at` meets its contract. The invariant: b is the block at place i. Assumes nothing.
-use Prim.Native.Nat.{◌-◌}
 use mathlib.Core.Path.{◌≡◌, sym, ap, subst, ◌∙◌}
 use native.Mathlib.Omega.{arith}
 use Rattle.model.specs.Map.{map_entry}

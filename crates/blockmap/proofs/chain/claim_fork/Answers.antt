@@ -1,25 +1,23 @@
 -- `claim_fork` meets its contract: each refusal is of a fork that check 8 refuses, and the walk answers for the others.
 -- Assumes nothing.
-use mathlib.Core.Path.{◌≡◌, ◌∙◌, ap}
-use mathlib.Core.Bool.{true, false, false≢true}
+use mathlib.Core.Path.{◌∙◌, ap}
+use mathlib.Core.Bool.{false≢true}
 use native.Mathlib.Omega.{arith}
 use borrow.Author.Tests.{eqb-true}
 use Rattle.model.specs.Map.{chain_blocks}
 use Rattle.model.specs.Directory.{block_count, fork_blocks}
-use Rattle.model.specs.Check.{SoundFork}
 use Rattle.blockmap.specs.Decoded.{decoded_entry}
-use Rattle.blockmap.specs.Marks.{marked, claims}
+use Rattle.blockmap.specs.Marks.{marked}
 use Rattle.blockmap.proofs.Marks.{refused, sound_most, claims_empty, empty_marked, claims_walk}
 use Rattle.blockmap.proofs.chain.claim_fork.Goals as goal
 
--- a fork that is not sound is refused, and nothing is asked of its marks
-refuses : {X : Type 0} (s : tie.Start)
-    → let a = s.args in (SoundFork (decoded_entry a.entries.now) a.n a.a a.g → ⊥)
-    → (false ≡ claims (decoded_entry a.entries.now) a.n a.a a.marks.now a.g) × (false ≡ true → X)
-refuses s h = let a = s.args in (refused (decoded_entry a.entries.now) a.n a.a a.marks.now a.g h, λ r. absurd (false≢true r))
-
 pub returns-then-logical-ne0 : goal.returns-then-logical-ne0
-returns-then-logical-ne0 c = refuses c (λ s. c.if-logical-ne0.true (s.empty c.if-first-eq0.true).0)
+returns-then-logical-ne0 c =
+    let a = c.args in
+    record {
+      answer = refused (decoded_entry a.entries.now) a.n a.a a.marks.now a.g (λ s. c.if-logical-ne0.true (s.empty c.if-first-eq0.true).0);
+      after = λ r. absurd (false≢true r);
+    }
 
 pub returns-then-first-eq0 : goal.returns-then-first-eq0
 returns-then-first-eq0 c =
@@ -30,24 +28,42 @@ returns-then-first-eq0 c =
     }
 
 pub returns-then-physical-eq0 : goal.returns-then-physical-eq0
-returns-then-physical-eq0 c = refuses c (λ s. omega (arith, s.some c.if-first-eq0.false))
+returns-then-physical-eq0 c =
+    let a = c.args in
+    record {
+      answer = refused (decoded_entry a.entries.now) a.n a.a a.marks.now a.g (λ s. omega (arith, s.some c.if-first-eq0.false));
+      after = λ r. absurd (false≢true r);
+    }
 
 pub returns-then-physical-a-ne0 : goal.returns-then-physical-a-ne0
-returns-then-physical-a-ne0 c = refuses c (λ s. c.if-physical-a-ne0.true (s.whole c.if-first-eq0.false))
+returns-then-physical-a-ne0 c =
+    let a = c.args in
+    record {
+      answer = refused (decoded_entry a.entries.now) a.n a.a a.marks.now a.g (λ s. c.if-physical-a-ne0.true (s.whole c.if-first-eq0.false));
+      after = λ r. absurd (false≢true r);
+    }
 
 pub returns-then-physical-logical : goal.returns-then-physical-logical
-returns-then-physical-logical c = refuses c (λ s. omega (arith, s.within c.if-first-eq0.false))
+returns-then-physical-logical c =
+    let a = c.args in
+    record {
+      answer = refused (decoded_entry a.entries.now) a.n a.a a.marks.now a.g (λ s. omega (arith, s.within c.if-first-eq0.false));
+      after = λ r. absurd (false≢true r);
+    }
 
 pub returns-then-n-k : goal.returns-then-n-k
 unfolding block_count
 returns-then-n-k c =
     let a = c.args in
-    refuses c (λ s. omega (
-      arith,
-      c.if-n-k.true,
-      c.block_count-k.ensures,
-      sound_most (decoded_entry a.entries.now) a.n a.a a.marks.now a.g s c.if-first-eq0.false,
-    ))
+    record {
+      answer = refused (decoded_entry a.entries.now) a.n a.a a.marks.now a.g (λ s. omega (
+        arith,
+        c.if-n-k.true,
+        c.block_count-k.ensures,
+        sound_most (decoded_entry a.entries.now) a.n a.a a.marks.now a.g s c.if-first-eq0.false,
+      ));
+      after = λ r. absurd (false≢true r);
+    }
 
 pub returns : goal.returns
 unfolding fork_blocks

@@ -1,6 +1,5 @@
 -- `decode` meets its contract. The invariant: b is even, `at` is the first byte of its pair, and the blocks below b are decoded.
 -- Assumes nothing.
-use Prim.Native.Nat.{◌-◌}
 use mathlib.Core.Path.{◌≡◌, ◌∙◌, sym, ap}
 use native.Mathlib.Omega.{arith}
 use lib.ListN.{length-set}

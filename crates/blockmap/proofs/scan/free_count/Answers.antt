@@ -1,8 +1,7 @@
 -- `free_count` meets its contract. The invariant: what was counted in the blocks passed and what is left are all. Assumes nothing.
-use Prim.Native.Nat.{ℕ, ◌-◌}
+use Prim.Native.Nat.{ℕ}
 use mathlib.Core.Path.{ap}
 use mathlib.Core.List.{List}
-use mathlib.Core.Logic.{⊎_elim}
 use native.Mathlib.Omega.{arith}
 use lib.ListN.{length}
 use borrow.Author.Tests.{eq-eqb, ne_eqb}
@@ -10,8 +9,9 @@ use Rattle.model.specs.Lists.{keep}
 use Rattle.model.specs.Map.{blocks_free}
 use Rattle.blockmap.specs.Decoded.{decoded_entry}
 use Rattle.blockmap.proofs.Ranges.{all_onward, count_hit, count_miss, count_none}
-use Rattle.blockmap.proofs.scan.free_count.Invariants.{free-at, left}
+use Rattle.blockmap.proofs.scan.free_count.Invariants.{free-at}
 use Rattle.blockmap.proofs.scan.free_count.Goals as goal
+use Rattle.blockmap.proofs.scan.free_count.Goals.{then-entries-b-eq0, else-entries-b-eq0}
 
 pub loop-b-init : goal.loop-b-init
 unfolding blocks_free
@@ -28,10 +28,14 @@ loop-b-preserved c =
     let l = c.loop-b in
     let v = decoded_entry a.entries.now l.b in
     let before = l.invariant.3 in
-    ⊎_elim
-    (λ w. let m = count_hit p a.n l.b (omega arith) (eq-eqb v 0 w.0.taken) in (omega arith, omega arith, omega (arith, w.1), omega (arith, w.1)))
-    (λ w. let m = count_miss p a.n l.b (omega arith) (ne_eqb v 0 w.0.left) in (omega arith, omega arith, omega (arith, w.1), omega (arith, w.1)))
-    c.if-entries-b-eq0.branch
+    elim c.if-entries-b-eq0.branch [
+      | then-entries-b-eq0 w ↦
+          let m = count_hit p a.n l.b (omega arith) (eq-eqb v 0 w.if-entries-b-eq0.true) in
+          (omega arith, omega arith, omega arith, omega arith)
+      | else-entries-b-eq0 w ↦
+          let m = count_miss p a.n l.b (omega arith) (ne_eqb v 0 w.if-entries-b-eq0.false) in
+          (omega arith, omega arith, omega arith, omega arith)
+    ]
 
 pub returns : goal.returns
 returns c =
