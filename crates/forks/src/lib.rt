@@ -1,5 +1,6 @@
 // The bytes of a fork, block by block, the blocks that it needs and those that a write takes.
 #![tactic(auto)]
+
 mod content;
 mod needs;
 
