@@ -30,6 +30,10 @@ sought b ps = first (λ p. eqb b p.0) (b, b) ps
 abbrev Sought : ℕ → List (ℕ × ℕ) → Type 0
 Sought b ps = (NoLower b ps × (sought b ps ≡ (b, b))) ⊎ (any (is_pair b (sought b ps).1) ps ≡ true)
 
+sought_past : (b : ℕ) (p : ℕ × ℕ) (ps : List (ℕ × ℕ)) → eqb b p.0 ≡ false → sought b (p ∷ ps) ≡ sought b ps
+unfolding first
+sought_past b p ps e = rw e
+
 seek : (b : ℕ) (ps : List (ℕ × ℕ)) → Sought b ps
 unfolding every any first is_pair
 seek b [] = inl (refl, refl)
@@ -38,7 +42,7 @@ seek b (p ∷ ps) = go (eqb b p.0) refl (seek b ps)
     go : (t : Bool) → eqb b p.0 ≡ t → Sought b ps → Sought b (p ∷ ps)
     go true e r = inr (rw (e, eq-eqb p.1 p.1 refl))
     go false e (inl n) = inl (rw (e, n.0), rw (e, n.1))
-    go false e (inr h) = inr (rw e h)
+    go false e (inr h) = inr (subst (λ (s : ℕ × ℕ). any (is_pair b s.1) (p ∷ ps) ≡ true) (sym (sought_past b p ps e)) (rw e h))
 
 -- a byte is its own fold, or the lower one of a pair of which its fold is the upper one
 abbrev Folded : ℕ → Type 0

@@ -1,5 +1,5 @@
 -- `Cursor::new` meets its contract. Assumes nothing.
-use Prim.Native.Nat.{◌-◌, ◌*◌}
+use Prim.Native.Nat.{◌*◌}
 use mathlib.Core.Path.{refl, sym}
 use native.Mathlib.Omega.{arith}
 use Rattle.directory.proofs.Steps.{blocks_rest}

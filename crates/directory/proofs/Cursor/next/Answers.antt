@@ -1,6 +1,5 @@
 -- `Cursor::next` meets its contract. The loop's invariant: the entries from c on are those from the given cursor on. The measure
 -- is the number of blocks left. Assumes nothing.
-use Prim.Native.Nat.{◌-◌}
 use mathlib.Core.Path.{◌≡◌, refl, sym, ◌∙◌}
 use native.Mathlib.Omega.{arith}
 use mathlib.Core.Bool.{true}
@@ -33,7 +32,7 @@ loop-c-preserved c =
     )
 
 pub entry-requires : goal.entry-requires
-entry-requires c = (c.loop-c.invariant.0, sym c.ends.ensures ∙ c.loop-c-test.false)
+entry-requires c = record { cursor_fits = c.loop-c.invariant.0; at_value = sym c.ends.ensures ∙ c.loop-c-test.false }
 
 pub returns : goal.returns
 returns c =

@@ -1,6 +1,6 @@
 -- `Cursor::next` meets its contract. The loop's invariant: the entries from c on are those from the given cursor on. The measure
 -- is the number of blocks left. Assumes nothing.
-use Prim.Native.Nat.{ℕ, ◌-◌, ◌≤◌}
+use Prim.Native.Nat.{ℕ, ◌≤◌}
 use mathlib.Core.Path.{◌≡◌}
 use Rattle.directory.specs.Cursor.{rest_of, CursorFits, Comes, ahead}
 use Rattle.directory.proofs.Cursor.next.Given as goal

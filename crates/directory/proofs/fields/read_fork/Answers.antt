@@ -9,5 +9,5 @@ use Rattle.directory.proofs.fields.read_fork.Goals as goal
 pub returns : goal.returns
 returns c =
     let a = c.args in
-    c.fork_at.ensures ∙ ap (λ (n : ℕ). fork_in (drop (a.e.start + n) a.image.now)) c.fork_place_lem.ensures.0
+    c.fork_at.ensures ∙ ap (λ (n : ℕ). fork_in (drop (a.e.start + n) a.image.now)) c.fork_place.ensures.0
     ∙ sym (fork_field a.image.now a.e c.requires a.fork)

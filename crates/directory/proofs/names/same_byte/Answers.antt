@@ -1,4 +1,4 @@
--- `same_byte_lem` meets its contract. Assumes nothing.
+-- `same_byte` meets its contract. Assumes nothing.
 use mathlib.Core.Path.{sym, ap}
 use native.Mathlib.Omega.{arith}
 use Rattle.directory.specs.Folding.{fold}

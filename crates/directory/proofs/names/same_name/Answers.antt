@@ -1,10 +1,8 @@
 -- `same_name` meets its contract. The loop's invariant: the names are equal from `left` on. Assumes nothing.
 use Prim.Native.Nat.{◌-◌}
 use mathlib.Core.Path.{◌≡◌, sym, ◌∙◌}
-use mathlib.Core.Bool.{true}
 use native.Mathlib.Omega.{arith}
 use lib.ListN.{length}
-use borrow.Author.Tests.{not-true, not-false}
 use Rattle.directory.proofs.Same.{lengths_differ, name_same, name_differs, name_end}
 use Rattle.directory.proofs.names.same_name.Goals as goal
 
@@ -22,15 +20,15 @@ same_byte-requires c = c.requires
 pub returns-then-not-same_byte : goal.returns-then-not-same_byte
 returns-then-not-same_byte c =
     let a = c.args in
-    sym (name_differs a.a.now a.b.now (c.loop-left.false - 1) (omega arith) (omega arith) (sym c.same_byte_lem.ensures ∙ not-true _ c.if-not-same_byte.true))
+    sym (name_differs a.a.now a.b.now (c.loop-left.left - 1) (omega arith) (omega arith) (sym c.same_byte.ensures ∙ c.if-not-same_byte.true))
 
 pub loop-left-preserved : goal.loop-left-preserved
 loop-left-preserved c =
     let a = c.args in
-    let same = sym c.same_byte_lem.ensures ∙ not-false _ c.if-not-same_byte.false in
-    (omega arith, omega arith, name_same a.a.now a.b.now c.loop-left.false (omega arith) (omega arith) (omega arith) same c.loop-left.invariant.2)
+    let same = sym c.same_byte.ensures ∙ c.if-not-same_byte.false in
+    (omega arith, omega arith, name_same a.a.now a.b.now c.loop-left.left (omega arith) (omega arith) (omega arith) same c.loop-left.invariant.2)
 
 pub returns : goal.returns
 returns c =
-    let none : c.loop-left.false ≡ 0 = omega arith in
+    let none : c.loop-left.left ≡ 0 = omega arith in
     sym (rw none at c.loop-left.invariant.2)

@@ -1,6 +1,6 @@
 -- `quick_locate` meets its contract. The loop's invariant: the search has passed `looked` blocks with `place` entries, none of the name.
 -- The measure is the number of blocks left. Assumes nothing.
-use Prim.Native.Nat.{◌+◌, ◌-◌, ◌*◌, ◌≤◌}
+use Prim.Native.Nat.{◌+◌, ◌*◌, ◌≤◌}
 use mathlib.Core.Path.{◌≡◌}
 use mathlib.Core.Bool.{false}
 use mathlib.Core.List.{◌∷◌}
@@ -21,7 +21,7 @@ loop-looked-init c =
     (omega arith, omega arith, none_past a.image.now a.name.now a.from.base (a.from.left + 1))
 
 pub search_block-requires : goal.search_block-requires
-search_block-requires c = (record { blocks = omega arith; place = omega arith }, c.fold_table-fold.ensures.folds)
+search_block-requires c = record { cursor_fits = record { blocks = omega arith; place = omega arith }; folds = c.fold_table-fold.ensures.folds }
 
 pub overflow_add-result : goal.overflow_add-result
 overflow_add-result c =
@@ -33,7 +33,7 @@ overflow_add-result c =
     let found : let a = c.args in
     FirstNamed a.image.now a.name.now (quick_entries (part (a.from.base + c.loop-looked.looked * 512) 512 a.image.now))
     c.in-At.within c.in-At.e = rw (one_block _ _) at (searched_at _ _ _ c.search_block.ensures c.in-At.is) in
-    omega (arith, found_few (here) (found))
+    omega (arith, found_few here found)
 
 pub returns-in-At : goal.returns-in-At
 returns-in-At c =
@@ -45,7 +45,7 @@ returns-in-At c =
     let found : let a = c.args in
     FirstNamed a.image.now a.name.now (quick_entries (part (a.from.base + c.loop-looked.looked * 512) 512 a.image.now))
     c.in-At.within c.in-At.e = rw (one_block _ _) at (searched_at _ _ _ c.search_block.ensures c.in-At.is) in
-    let w = here in (found_there w (found), found_looked w (found))
+    let w = here in (found_there w found, found_looked w found)
 
 pub overflow_add-place : goal.overflow_add-place
 overflow_add-place c =
@@ -66,7 +66,7 @@ loop-looked-preserved c =
     let es = quick_entries (part (a.from.base + c.loop-looked.looked * 512) 512 a.image.now) in
     (any (named a.name.now) es ≡ false) × (c.in-Passed.count ≡ length es) × (length es ≤ 10) = let p = rw (one_block _ _) at (searched_past _ _ _ c.search_block.ensures c.in-Passed.is) in
     (p.0, p.1, few _) in
-    (omega arith, omega (arith, passed), rw (passed).1 (past_more (here) (passed).0))
+    (omega arith, omega (arith, passed), rw passed.1 (past_more here passed.0))
 
 pub returns : goal.returns
 returns c = all_past _ _ _ _ c.loop-looked.invariant.2 (omega arith)

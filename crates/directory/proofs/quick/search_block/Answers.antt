@@ -15,7 +15,7 @@ use Rattle.directory.proofs.Tests.{any_pass, any_fail, first_pass, first_fail, p
 use Rattle.directory.proofs.quick.search_block.Goals as goal
 
 pub loop-e-init : goal.loop-e-init
-loop-e-init c = (c.requires.0, omega arith, refl, refl, omega arith, omega arith)
+loop-e-init c = (c.requires.cursor_fits, omega arith, refl, refl, omega arith, omega arith)
 
 pub next-requires : goal.next-requires
 next-requires c = c.loop-e.invariant.0
@@ -23,7 +23,7 @@ next-requires c = c.loop-e.invariant.0
 pub has_name-requires : goal.has_name-requires
 has_name-requires c =
     let step : Moves c.args.image.now c.loop-e.c c.in-Entry.e c.in-Entry.behind = moved c.next.ensures c.in-Entry.is in
-    ((step).stands, c.requires.1)
+    record { stands = step.stands; folds = c.requires.folds }
 
 pub returns-then-has_name : goal.returns-then-has_name
 returns-then-has_name c =
@@ -49,7 +49,7 @@ overflow_add-place c =
 pub loop-e-smaller : goal.loop-e-smaller
 loop-e-smaller c =
     let step : Moves c.args.image.now c.loop-e.c c.in-Entry.e c.in-Entry.behind = moved c.next.ensures c.in-Entry.is in
-    (step).less
+    step.less
 
 pub loop-e-preserved : goal.loop-e-preserved
 loop-e-preserved c =

@@ -6,4 +6,4 @@ use Rattle.directory.proofs.search.has_name.Goals as goal
 
 pub returns : goal.returns
 unfolding named
-returns c = c.same_name.ensures ∙ ap (same_name c.args.name.now) (name_part c.args.image.now c.args.e c.requires.0)
+returns c = c.same_name.ensures ∙ ap (same_name c.args.name.now) (name_part c.args.image.now c.args.e c.requires.stands)

@@ -17,13 +17,13 @@ loop-e-init c = (c.requires, omega arith, refl, refl, omega arith, λ base block
 pub has_name-requires : goal.has_name-requires
 has_name-requires c =
     let step : Advances c.args.image.now c.loop-e.c c.in-Entry.e c.in-Entry.behind = advanced c.advance.ensures c.in-Entry.is in
-    ((step).moves.stands, c.fold_table-fold.ensures.folds)
+    record { stands = step.moves.stands; folds = c.fold_table-fold.ensures.folds }
 
 pub returns-then-has_name : goal.returns-then-has_name
 returns-then-has_name c =
     let step : Advances c.args.image.now c.loop-e.c c.in-Entry.e c.in-Entry.behind = advanced c.advance.ensures c.in-Entry.is in
     let l = c.loop-e in
-    let m = (step).moves in
+    let m = step.moves in
     let has = sym c.has_name.ensures ∙ c.if-has_name.true in
     let a = c.args in
     let place = place_pass m.rest (named a.name.now) has in
@@ -41,21 +41,21 @@ returns-then-has_name c =
 pub overflow_add-place : goal.overflow_add-place
 overflow_add-place c =
     let step : Advances c.args.image.now c.loop-e.c c.in-Entry.e c.in-Entry.behind = advanced c.advance.ensures c.in-Entry.is in
-    omega (arith, (step).moves)
+    omega (arith, step.moves)
 
 pub loop-e-smaller : goal.loop-e-smaller
 loop-e-smaller c =
     let step : Advances c.args.image.now c.loop-e.c c.in-Entry.e c.in-Entry.behind = advanced c.advance.ensures c.in-Entry.is in
-    (step).moves.less
+    step.moves.less
 
 pub loop-e-preserved : goal.loop-e-preserved
 loop-e-preserved c =
     let step : Advances c.args.image.now c.loop-e.c c.in-Entry.e c.in-Entry.behind = advanced c.advance.ensures c.in-Entry.is in
     let l = c.loop-e in
-    let m = (step).moves in
+    let m = step.moves in
     let not = sym c.has_name.ensures ∙ c.if-has_name.false in
     let place = place_fail m.rest (named c.args.name.now) not in (
-      (step).passes,
+      step.passes,
       omega arith,
       l.invariant.2 ∙ any_fail m.rest _ not,
       l.invariant.3 ∙ first_fail m.rest _ [] not,
