@@ -1,6 +1,7 @@
 // What is stored in the volume information and in the directory: numbers and counts, an entry put in, its fork's fields or its name
 // rewritten, an entry taken out.
 #![tactic(auto)]
+
 mod counts;
 mod fork_fields;
 mod insert;

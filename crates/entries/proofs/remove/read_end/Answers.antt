@@ -1,0 +1,24 @@
+-- `read_end` meets its contract. The loop's invariant: the block's reading comes to c. Assumes nothing.
+use Rattle.directory.specs.Cursor.{Advances}
+use Rattle.directory.proofs.Each.{advanced, none_left}
+use Rattle.entries.proofs.Blocks.{block_passes, block_comes, block_ends}
+use Rattle.entries.proofs.remove.read_end.Goals as goal
+
+pub loop-behind-init : goal.loop-behind-init
+loop-behind-init c = (block_passes c.args.image.now c.args.base c.requires, block_comes c.args.image.now c.args.base c.requires)
+
+pub loop-behind-smaller : goal.loop-behind-smaller
+loop-behind-smaller c =
+    let step : Advances c.args.image.now c.loop-behind.c c.in-Entry.field-0 c.in-Entry.behind = advanced c.advance.ensures c.in-Entry.is in
+    (step).moves.less
+
+pub loop-behind-preserved : goal.loop-behind-preserved
+loop-behind-preserved c =
+    let step : Advances c.args.image.now c.loop-behind.c c.in-Entry.field-0 c.in-Entry.behind = advanced c.advance.ensures c.in-Entry.is in
+    let s = step in
+    (s.passes, s.moves.comes _ 1 c.loop-behind.invariant.1)
+
+pub returns-in-End : goal.returns-in-End
+returns-in-End c =
+    let l = c.loop-behind in
+    (block_ends _ _ l.c l.invariant.1 (none_left _ _ c.advance.ensures c.in-End.is), l.invariant.0.fits.place)
