@@ -4,12 +4,13 @@ ghost use Rattle.model.specs.Directory.{size_for};
 
 use crate::EntryAt;
 
-// An entry is 51 bytes and its name, here of n bytes, plus one byte to make the size even: one byte more, rounded down to an even number.
+// An entry is 51 bytes and its name, here of n bytes, plus one byte to make the size even.
 pub fn entry_size(n: usize) -> usize
     requires { n ≤ 255 }
     ensures { result ≡ size_for n }
 {
-    (EntryAt::NAME_AT + n + 1) / 2 * 2
+    let size = EntryAt::NAME_AT + n;
+    size + size % 2
 }
 
 impl EntryAt {
