@@ -1,6 +1,7 @@
 // Checks 1 to 10: the length of the image and the volume facts, the entries of the directory tested, counted and compared, and
 // all from 2 on in their order.
 #![tactic(auto)]
+
 mod differ;
 mod limits;
 mod pairs;

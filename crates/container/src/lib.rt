@@ -1,5 +1,6 @@
 // The Disk Copy 4.2 file: its parts, its checksum, refusals 22 to 24, the data checksum renewed, and a bare image wrapped.
 #![tactic(auto)]
+
 mod header;
 mod parts;
 mod renewing;

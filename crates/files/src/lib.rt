@@ -1,6 +1,7 @@
 // Names given to a call. A named file of an accepted volume: found, its locks, and whether it or a fork of it may be changed. The
 // answers of the calls, and the zeros that a refusal gives.
 #![tactic(auto)]
+
 mod answers;
 mod locks;
 mod names;

@@ -1,0 +1,41 @@
+-- `clashes_behind` meets its contract. The loop's invariant: the entry clashes with one where it does with one from c on. Assumes
+-- nothing.
+use mathlib.Core.Path.{refl, sym, ap, ◌∙◌}
+use Rattle.model.specs.Lists.{any}
+use Rattle.directory.specs.Cursor.{Advances}
+use Rattle.directory.proofs.Each.{advanced, none_left}
+use Rattle.directory.proofs.Tests.{any_pass, any_fail}
+use Rattle.checks.proofs.pairs.clashes_behind.Goals as goal
+
+pub loop-d-init : goal.loop-d-init
+loop-d-init c = (c.requires.passes, refl)
+
+pub clashes-requires : goal.clashes-requires
+clashes-requires c =
+    let step : Advances c.args.image.now c.loop-d.c c.in-Entry.d c.in-Entry.behind = advanced c.advance.ensures c.in-Entry.is in
+    let p = c.requires.1 in
+    record {
+      stands = p.0;
+      stands_2 = (step).moves.stands;
+      folds = p.1;
+    }
+
+pub returns-then-clashes : goal.returns-then-clashes
+returns-then-clashes c =
+    let step : Advances c.args.image.now c.loop-d.c c.in-Entry.d c.in-Entry.behind = advanced c.advance.ensures c.in-Entry.is in
+    sym (c.loop-d.invariant.1 ∙ any_pass (step).moves.rest _ (sym c.clashes.ensures ∙ c.if-clashes.true))
+
+pub loop-d-smaller : goal.loop-d-smaller
+loop-d-smaller c =
+    let step : Advances c.args.image.now c.loop-d.c c.in-Entry.d c.in-Entry.behind = advanced c.advance.ensures c.in-Entry.is in
+    (step).moves.less
+
+pub loop-d-preserved : goal.loop-d-preserved
+loop-d-preserved c =
+    let step : Advances c.args.image.now c.loop-d.c c.in-Entry.d c.in-Entry.behind = advanced c.advance.ensures c.in-Entry.is in
+    let s = step in
+    (s.passes, c.loop-d.invariant.1 ∙ any_fail s.moves.rest _ (sym c.clashes.ensures ∙ c.if-clashes.false))
+
+pub returns-in-End : goal.returns-in-End
+unfolding any
+returns-in-End c = sym (c.loop-d.invariant.1 ∙ ap (any _) (none_left _ _ c.advance.ensures c.in-End.is))

@@ -1,0 +1,73 @@
+-- `count_entries` meets its contract. The loop's invariant: check 6 fires for the entries from c on where it does for all, those
+-- with the ones counted are all, and so it is with their file numbers. Assumes nothing.
+use Prim.Native.Nat.{ℕ}
+use mathlib.Core.Path.{refl, sym, ap, ◌∙◌}
+use mathlib.Core.Bool.{◌&&◌, and-true}
+use mathlib.Core.List.{List}
+use mathlib.Core.Logic.{⊎_elim}
+use native.Mathlib.Omega.{arith}
+use lib.ListN.{length}
+use borrow.Author.Tests.{not-true, not-false}
+use Rattle.model.specs.Lists.{every}
+use Rattle.model.specs.Check.{good_number}
+use Rattle.directory.specs.Cursor.{Moves}
+use Rattle.directory.proofs.Each.{moved, ended, failed, six_more, six_none, six_fails, differs}
+use Rattle.directory.proofs.Tests.{every_pass, every_fail}
+use Rattle.checks.proofs.tally.count_entries.Goals as goal
+
+pub loop-e-init : goal.loop-e-init
+loop-e-init c = (c.requires, omega arith, refl, omega arith, refl)
+
+pub next-requires : goal.next-requires
+next-requires c = c.loop-e.invariant.0
+
+pub good_number-requires : goal.good_number-requires
+good_number-requires c =
+    let step : Moves c.args.image.now c.loop-e.c c.in-Entry.e c.in-Entry.behind = moved c.next.ensures c.in-Entry.is in
+    (step).stands
+
+pub overflow_add-count : goal.overflow_add-count
+overflow_add-count c =
+    let step : Moves c.args.image.now c.loop-e.c c.in-Entry.e c.in-Entry.behind = moved c.next.ensures c.in-Entry.is in
+    omega (arith, step)
+
+pub loop-e-smaller : goal.loop-e-smaller
+loop-e-smaller c =
+    let step : Moves c.args.image.now c.loop-e.c c.in-Entry.e c.in-Entry.behind = moved c.next.ensures c.in-Entry.is in
+    omega (arith, step)
+
+pub loop-e-preserved : goal.loop-e-preserved
+loop-e-preserved c =
+    let step : Moves c.args.image.now c.loop-e.c c.in-Entry.e c.in-Entry.behind = moved c.next.ensures c.in-Entry.is in
+    let l = c.loop-e in
+    let m = step in
+    let long = ap (length {A = List ℕ}) m.rest in
+    let good = sym c.good_number.ensures in
+    let numbers =
+    ⊎_elim (λ w. every_fail m.rest (good_number _) l.numbered c.if-not-good_number.numbered (good ∙ not-true _ w.0.taken) w.1)
+    (λ w. every_pass m.rest (good_number _) l.numbered c.if-not-good_number.numbered (good ∙ not-false _ w.0.left) w.1)
+    c.if-not-good_number.branch
+    in
+    (m.fits, omega arith, l.invariant.2 ∙ six_more m, omega arith, l.invariant.4 ∙ numbers)
+
+pub returns-in-End : goal.returns-in-End
+unfolding every
+returns-in-End c =
+    let l = c.loop-e in
+    let a = c.args in
+    let none = ended _ _ c.next.ensures c.in-End.is in
+    let long = ap (length {A = List ℕ}) none in
+    record {
+      six = sym (l.invariant.2 ∙ six_none none);
+      counted = λ _. omega arith;
+      tested = λ _. sym (l.invariant.4 ∙ ap (λ (es : List (List ℕ)). l.numbered && every (good_number a.next) es) none ∙ and-true l.numbered);
+    }
+
+pub returns-in-Bad : goal.returns-in-Bad
+returns-in-Bad c =
+    let l = c.loop-e in
+    record {
+      six = sym (l.invariant.2 ∙ six_fails (failed c.next.ensures c.in-Bad.is));
+      counted = λ h. absurd (differs h);
+      tested = λ h. absurd (differs h);
+    }
