@@ -1,5 +1,6 @@
 // What create does on an accepted image, whose facts are known.
 #![tactic(auto)]
+
 mod add;
 mod create;
 

@@ -1,5 +1,6 @@
 // What cut does on an accepted image, whose facts are known.
 #![tactic(auto)]
+
 mod cut;
 mod shorten;
 

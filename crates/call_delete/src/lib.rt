@@ -1,5 +1,6 @@
 // What delete does on an accepted image, whose facts are known.
 #![tactic(auto)]
+
 mod delete;
 mod take;
 

@@ -1,5 +1,6 @@
 // What the calls that change nothing, entry, find, block and read, answer on an accepted image, whose facts are known.
 #![tactic(auto)]
+
 mod block_read;
 mod entry_find;
 

@@ -1,5 +1,6 @@
 // What rename does on an accepted image, whose facts are known.
 #![tactic(auto)]
+
 mod rename;
 mod retitle;
 

@@ -1,5 +1,6 @@
 // What write does on an accepted image, whose facts are known.
 #![tactic(auto)]
+
 mod grow;
 mod write;
 

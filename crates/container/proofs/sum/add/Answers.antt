@@ -5,4 +5,4 @@ use Rattle.container.proofs.sum.add.Goals as goal
 
 pub returns : goal.returns
 unfolding added
-returns c = c.turn.ensures ∙ ap turned c.wrapping_add_u32.ensures
+returns c = c.turn.ensures ∙ ap turned c.wrapping_add_u32.ensures.value

@@ -17,3 +17,4 @@ returns c =
   changed = 0;
   name_length = 0;
   name = zeros 255;
+}

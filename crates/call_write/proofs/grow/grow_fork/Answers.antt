@@ -1,0 +1,170 @@
+-- `grow_fork` meets its contract. Assumes nothing.
+use Prim.Native.Nat.{ℕ, ◌+◌, ◌*◌, ◌/◌, ◌≤◌, max}
+use mathlib.Core.Path.{◌≡◌, ap, ◌∙◌}
+use native.Mathlib.Omega.{arith}
+use mir.Syntax.{w16, w32, w64}
+use mir.Val.{Fits}
+use lib.ListN.{length}
+use Rattle.model.specs.Lists.{first_or0}
+use Rattle.model.specs.Facts.{A}
+use Rattle.model.specs.Map.{put_chain}
+use Rattle.model.specs.Directory.{block_count}
+use Rattle.files.specs.Lookup.{FileAt}
+use Rattle.files.proofs.Forks.{large_block, few_in_volume, free_blocks_lem, long_image, has_chain}
+use Rattle.call_write.proofs.Grown.{grown_blocks, grown_base, grown_few, grown_fillable, grown_stored}
+use Rattle.call_write.proofs.Grown.{grown_fits, grown_most, grown_stands, grown_written}
+use Rattle.call_write.proofs.grow.grow_fork.Goals as goal
+
+-- sizes that fit: p blocks and q more of them, and bytes up to a or up to b, in a room of m
+count_fits : (p q : ℕ) → p + q ≤ 640 → Fits w16 p
+count_fits p q h = omega arith
+
+sum_fits : (p q : ℕ) → p + q ≤ 640 → Fits w16 (p + q)
+sum_fits p q h = omega arith
+
+sum-wide : (p q : ℕ) → p + q ≤ 640 → Fits w32 (p + q)
+sum-wide p q h = omega arith
+
+room_fits : (m : ℕ) → m ≤ 20971520 → Fits w32 m
+room_fits m h = omega arith
+
+within : (a b m : ℕ) → max a b ≤ m → b ≤ m
+within a b m h = omega arith
+
+first_fits : (a b m : ℕ) → max a b ≤ m → m ≤ 20971520 → Fits w64 a
+first_fits a b m h k = omega arith
+
+second_fits : (a b m : ℕ) → max a b ≤ m → m ≤ 20971520 → Fits w64 b
+second_fits a b m h k = omega arith
+
+larger-fits : (r a b m : ℕ) → r ≡ max a b → max a b ≤ m → m ≤ 20971520 → Fits w32 r
+larger-fits r a b m e h k = omega arith
+
+enough : (n a b : ℕ) → n ≤ a → a ≡ b → n ≤ b
+enough n a b h e = omega arith
+
+long : (n m : ℕ) → n ≡ m → 2048 ≤ m → 1088 ≤ n
+long n m e h = omega arith
+
+-- ---- the needs
+pub block_count-has-requires : goal.block_count-has-requires
+block_count-has-requires c =
+    let held : FileAt c.args.f c.args.image.now c.args.e = c.requires.fork_at.held in
+    large_block (held).readable
+
+pub overflow_cast-has : goal.overflow_cast-has
+unfolding block_count
+overflow_cast-has c =
+    let held : FileAt c.args.f c.args.image.now c.args.e = c.requires.fork_at.held in
+    let blocks-few : c.args.g.physical / A c.args.f + c.args.new ≤ 640 = grown_few held.args.fork c.args.g c.requires.fork_at.is c.args.new c.requires.offset_le_logical.2 in
+    let has-is : c.block_count-has.result ≡ c.args.g.physical / A c.args.f = c.block_count-has.ensures in
+    rw (has-is) (count_fits _ _ (blocks-few))
+
+pub extend-start-requires : goal.extend-start-requires
+unfolding block_count
+extend-start-requires c =
+    let held : FileAt c.args.f c.args.image.now c.args.e = c.requires.fork_at.held in
+    let has-is : c.block_count-has.result ≡ c.args.g.physical / A c.args.f = c.block_count-has.ensures in
+    let h = held in
+    rw (has-is) (
+      few_in_volume h.readable,
+      long_image h.readable,
+      has_chain h.readable h.found c.args.fork c.requires.fork_at.is,
+      enough _ _ _ c.requires.offset_le_logical.2 (free_blocks_lem h.readable),
+    )
+
+pub overflow_add-blocks : goal.overflow_add-blocks
+unfolding block_count
+overflow_add-blocks c =
+    let held : FileAt c.args.f c.args.image.now c.args.e = c.requires.fork_at.held in
+    let blocks-few : c.args.g.physical / A c.args.f + c.args.new ≤ 640 = grown_few held.args.fork c.args.g c.requires.fork_at.is c.args.new c.requires.offset_le_logical.2 in
+    let has-is : c.block_count-has.result ≡ c.args.g.physical / A c.args.f = c.block_count-has.ensures in
+    rw (has-is) (sum_fits _ _ (blocks-few))
+
+pub fill_fork-requires : goal.fill_fork-requires
+unfolding block_count
+fill_fork-requires c =
+    let held : FileAt c.args.f c.args.image.now c.args.e = c.requires.fork_at.held in
+    let bytes_fit : max c.args.g.logical (c.args.offset + length c.args.bytes.now)
+    ≤ (c.args.g.physical / A c.args.f + c.args.new) * A c.args.f = grown_fits held.args.fork c.args.g c.requires.fork_at.is c.args.new c.requires.offset_le_logical.2
+    c.args.offset c.args.bytes.now c.requires.offset_le_logical.0 c.requires.offset_le_logical.1 in
+    let has-is : c.block_count-has.result ≡ c.args.g.physical / A c.args.f = c.block_count-has.ensures in
+    let chain-put : let a = c.args in c.extend-start.new.image ≡ put_chain a.image.now (grown_blocks a.f a.image.now a.g a.new) = rw (has-is) at c.extend-start.ensures.after in
+    let first-is : let a = c.args in c.extend-start.result.0 ≡ first_or0 (grown_blocks a.f a.image.now a.g a.new) = rw (has-is) at c.extend-start.ensures.start in
+    rw (has-is) (
+      grown_fillable (held) c.args.fork c.args.g c.requires.fork_at.is c.args.new c.requires.offset_le_logical.2
+          c.extend-start.new.image c.extend-start.result.0 (chain-put) (first-is),
+      within _ _ _ (bytes_fit),
+    )
+
+pub overflow_cast-g : goal.overflow_cast-g
+overflow_cast-g c =
+    let held : FileAt c.args.f c.args.image.now c.args.e = c.requires.fork_at.held in
+    let bytes_fit : max c.args.g.logical (c.args.offset + length c.args.bytes.now)
+    ≤ (c.args.g.physical / A c.args.f + c.args.new) * A c.args.f = grown_fits held.args.fork c.args.g c.requires.fork_at.is c.args.new c.requires.offset_le_logical.2
+    c.args.offset c.args.bytes.now c.requires.offset_le_logical.0 c.requires.offset_le_logical.1 in
+    let bytes_most : (c.args.g.physical / A c.args.f + c.args.new) * A c.args.f ≤ 20971520 = grown_most held.args.fork c.args.g c.requires.fork_at.is c.args.new c.requires.offset_le_logical.2 in
+    first_fits _ _ _ (bytes_fit) (bytes_most)
+
+pub overflow_add-offset : goal.overflow_add-offset
+overflow_add-offset c =
+    let held : FileAt c.args.f c.args.image.now c.args.e = c.requires.fork_at.held in
+    let bytes_fit : max c.args.g.logical (c.args.offset + length c.args.bytes.now)
+    ≤ (c.args.g.physical / A c.args.f + c.args.new) * A c.args.f = grown_fits held.args.fork c.args.g c.requires.fork_at.is c.args.new c.requires.offset_le_logical.2
+    c.args.offset c.args.bytes.now c.requires.offset_le_logical.0 c.requires.offset_le_logical.1 in
+    let bytes_most : (c.args.g.physical / A c.args.f + c.args.new) * A c.args.f ≤ 20971520 = grown_most held.args.fork c.args.g c.requires.fork_at.is c.args.new c.requires.offset_le_logical.2 in
+    second_fits _ _ _ (bytes_fit) (bytes_most)
+
+pub larger-requires : goal.larger-requires
+larger-requires c = tt
+
+pub overflow_cast-after : goal.overflow_cast-after
+overflow_cast-after c =
+    let held : FileAt c.args.f c.args.image.now c.args.e = c.requires.fork_at.held in
+    let bytes_fit : max c.args.g.logical (c.args.offset + length c.args.bytes.now)
+    ≤ (c.args.g.physical / A c.args.f + c.args.new) * A c.args.f = grown_fits held.args.fork c.args.g c.requires.fork_at.is c.args.new c.requires.offset_le_logical.2
+    c.args.offset c.args.bytes.now c.requires.offset_le_logical.0 c.requires.offset_le_logical.1 in
+    let bytes_most : (c.args.g.physical / A c.args.f + c.args.new) * A c.args.f ≤ 20971520 = grown_most held.args.fork c.args.g c.requires.fork_at.is c.args.new c.requires.offset_le_logical.2 in
+    larger-fits _ _ _ _ c.larger.ensures (bytes_fit) (bytes_most)
+
+pub store_fork-requires : goal.store_fork-requires
+unfolding block_count
+store_fork-requires c =
+    let held : FileAt c.args.f c.args.image.now c.args.e = c.requires.fork_at.held in
+    let has-is : c.block_count-has.result ≡ c.args.g.physical / A c.args.f = c.block_count-has.ensures in
+    let chain-put : let a = c.args in c.extend-start.new.image ≡ put_chain a.image.now (grown_blocks a.f a.image.now a.g a.new) = rw (has-is) at c.extend-start.ensures.after in
+    let first-is : let a = c.args in c.extend-start.result.0 ≡ first_or0 (grown_blocks a.f a.image.now a.g a.new) = rw (has-is) at c.extend-start.ensures.start in
+    let stored : let a = c.args in
+    c.fill_fork.new.image ≡ grown_base a.f a.image.now a.g a.new a.offset a.bytes.now = grown_stored (held) c.args.fork c.args.g c.requires.fork_at.is c.args.new c.requires.offset_le_logical.2
+    c.extend-start.new.image c.extend-start.result.0 (chain-put) (first-is)
+    c.args.offset c.args.bytes.now c.fill_fork.new.image (rw (has-is) at c.fill_fork.ensures) in
+    grown_stands (held) c.args.fork c.args.g c.requires.fork_at.is c.args.new c.requires.offset_le_logical.2
+    c.args.offset c.args.bytes.now c.requires.offset_le_logical.0 c.requires.offset_le_logical.1 c.fill_fork.new.image (stored)
+
+pub overflow_sub-f : goal.overflow_sub-f
+overflow_sub-f c = c.requires.offset_le_logical.2
+
+pub put_free-requires : goal.put_free-requires
+put_free-requires c =
+    let held : FileAt c.args.f c.args.image.now c.args.e = c.requires.fork_at.held in
+    long _ _ (c.store_fork.auto.image ∙ c.fill_fork.auto.image ∙ c.extend-start.auto.image) (long_image (held).readable)
+
+pub shape_of-image : goal.shape_of-image
+shape_of-image c = c.put_free.auto.image ∙ c.store_fork.auto.image ∙ c.fill_fork.auto.image ∙ c.extend-start.auto.image
+
+pub returns : goal.returns
+unfolding block_count
+returns c =
+    let has-is : c.block_count-has.result ≡ c.args.g.physical / A c.args.f = c.block_count-has.ensures in
+    let first-is : let a = c.args in c.extend-start.result.0 ≡ first_or0 (grown_blocks a.f a.image.now a.g a.new) = rw (has-is) at c.extend-start.ensures.start in
+    let held : FileAt c.args.f c.args.image.now c.args.e = c.requires.fork_at.held in
+    let chain-put : let a = c.args in c.extend-start.new.image ≡ put_chain a.image.now (grown_blocks a.f a.image.now a.g a.new) = rw (has-is) at c.extend-start.ensures.after in
+    let stored : let a = c.args in
+    c.fill_fork.new.image ≡ grown_base a.f a.image.now a.g a.new a.offset a.bytes.now = grown_stored (held) c.args.fork c.args.g c.requires.fork_at.is c.args.new c.requires.offset_le_logical.2
+    c.extend-start.new.image c.extend-start.result.0 (chain-put) (first-is)
+    c.args.offset c.args.bytes.now c.fill_fork.new.image (rw (has-is) at c.fill_fork.ensures) in
+    grown_written h c.args.fork c.args.g c.requires.fork_at.is c.args.new c.requires.offset_le_logical.2
+    c.args.offset c.args.bytes.now c.requires.offset_le_logical.0 c.requires.offset_le_logical.1
+    c.fill_fork.new.image c.store_fork.new.image c.put_free.new.image c.extend-start.result.0 c.larger.result
+    (c.block_count-has.result + c.args.new) c.args.changed
+    (stored) (first-is) c.larger.ensures (ap (λ (n : ℕ). n + c.args.new) (has-is)) c.store_fork.ensures c.put_free.ensures
