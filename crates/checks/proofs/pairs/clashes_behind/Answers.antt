@@ -13,28 +13,26 @@ loop-d-init c = (c.requires.passes, refl)
 pub clashes-requires : goal.clashes-requires
 clashes-requires c =
     let step : Advances c.args.image.now c.loop-d.c c.in-Entry.d c.in-Entry.behind = advanced c.advance.ensures c.in-Entry.is in
-    let p = c.requires.1 in
     record {
-      stands = p.0;
-      stands_2 = (step).moves.stands;
-      folds = p.1;
+      stands = c.requires.stands;
+      stands_2 = step.moves.stands;
+      folds = c.requires.folds;
     }
 
 pub returns-then-clashes : goal.returns-then-clashes
 returns-then-clashes c =
     let step : Advances c.args.image.now c.loop-d.c c.in-Entry.d c.in-Entry.behind = advanced c.advance.ensures c.in-Entry.is in
-    sym (c.loop-d.invariant.1 ∙ any_pass (step).moves.rest _ (sym c.clashes.ensures ∙ c.if-clashes.true))
+    sym (c.loop-d.invariant.1 ∙ any_pass step.moves.rest _ (sym c.clashes.ensures ∙ c.if-clashes.true))
 
 pub loop-d-smaller : goal.loop-d-smaller
 loop-d-smaller c =
     let step : Advances c.args.image.now c.loop-d.c c.in-Entry.d c.in-Entry.behind = advanced c.advance.ensures c.in-Entry.is in
-    (step).moves.less
+    step.moves.less
 
 pub loop-d-preserved : goal.loop-d-preserved
 loop-d-preserved c =
     let step : Advances c.args.image.now c.loop-d.c c.in-Entry.d c.in-Entry.behind = advanced c.advance.ensures c.in-Entry.is in
-    let s = step in
-    (s.passes, c.loop-d.invariant.1 ∙ any_fail s.moves.rest _ (sym c.clashes.ensures ∙ c.if-clashes.false))
+    (step.passes, c.loop-d.invariant.1 ∙ any_fail step.moves.rest _ (sym c.clashes.ensures ∙ c.if-clashes.false))
 
 pub returns-in-End : goal.returns-in-End
 unfolding any

@@ -8,13 +8,13 @@ use Rattle.checks.proofs.Kept.{found_free, found_met, kept_none, kept_same, kept
 use Rattle.checks.proofs.table.insert_all.Goals as goal
 
 pub loop-e-init : goal.loop-e-init
-loop-e-init c = let p = c.requires in (p.0, kept_none p.1.1)
+loop-e-init c = (c.requires.passes, kept_none c.requires.all_free)
 
 pub probe-requires : goal.probe-requires
 probe-requires c =
     let step : Advances c.args.image.now c.loop-e.c c.in-Entry.e c.in-Entry.behind = advanced c.advance.ensures c.in-Entry.is in
     record {
-      stands = (step).moves.stands;
+      stands = step.moves.stands;
       filled = c.loop-e.invariant.1.filled;
       folds = c.requires.folds;
     }
@@ -22,45 +22,43 @@ probe-requires c =
 pub overflow_add-table : goal.overflow_add-table
 overflow_add-table c =
     let step : Advances c.args.image.now c.loop-e.c c.in-Entry.e c.in-Entry.behind = advanced c.advance.ensures c.in-Entry.is in
-    omega (arith, (step).moves.stands)
+    omega (arith, step.moves.stands)
 
 pub overflow_cast-table : goal.overflow_cast-table
 overflow_cast-table c =
-    let free : let a = c.args in
-    FreeAt a.field a.image.now c.loop-e.table c.in-Entry.e c.in-Free.i = found_free _ _ _ _ _ c.probe.ensures _ c.in-Free.is in
+    let a = c.args in
+    let free : FreeAt a.field a.image.now c.loop-e.table c.in-Entry.e c.in-Free.i = found_free _ _ _ _ _ c.probe.ensures _ c.in-Free.is in
     omega (arith, free)
 
 pub offset_bounds-table-i : goal.offset_bounds-table-i
 offset_bounds-table-i c =
-    let free : let a = c.args in
-    FreeAt a.field a.image.now c.loop-e.table c.in-Entry.e c.in-Free.i = found_free _ _ _ _ _ c.probe.ensures _ c.in-Free.is in
+    let a = c.args in
+    let free : FreeAt a.field a.image.now c.loop-e.table c.in-Entry.e c.in-Free.i = found_free _ _ _ _ _ c.probe.ensures _ c.in-Free.is in
     omega (arith, free)
 
 pub bounds-table-i : goal.bounds-table-i
 bounds-table-i c =
-    let free : let a = c.args in
-    FreeAt a.field a.image.now c.loop-e.table c.in-Entry.e c.in-Free.i = found_free _ _ _ _ _ c.probe.ensures _ c.in-Free.is in
-    (free).within
+    let a = c.args in
+    let free : FreeAt a.field a.image.now c.loop-e.table c.in-Entry.e c.in-Free.i = found_free _ _ _ _ _ c.probe.ensures _ c.in-Free.is in
+    free.within
 
 pub loop-e-smaller : goal.loop-e-smaller
 loop-e-smaller c =
     let step : Advances c.args.image.now c.loop-e.c c.in-Entry.e c.in-Entry.behind = advanced c.advance.ensures c.in-Entry.is in
-    (step).moves.less
+    step.moves.less
 
 pub loop-e-preserved : goal.loop-e-preserved
 loop-e-preserved c =
     let step : Advances c.args.image.now c.loop-e.c c.in-Entry.e c.in-Entry.behind = advanced c.advance.ensures c.in-Entry.is in
-    let free : let a = c.args in
-    FreeAt a.field a.image.now c.loop-e.table c.in-Entry.e c.in-Free.i = found_free _ _ _ _ _ c.probe.ensures _ c.in-Free.is in
+    let a = c.args in
+    let free : FreeAt a.field a.image.now c.loop-e.table c.in-Entry.e c.in-Free.i = found_free _ _ _ _ _ c.probe.ensures _ c.in-Free.is in
     let kept = c.loop-e.invariant.1 in
-    let s = step in
-    let m = s.moves in
-    (s.passes, kept_more kept.long m.stands (free) (kept_same kept m.rest))
+    (step.passes, kept_more kept.long step.moves.stands free (kept_same kept step.moves.rest))
 
 pub returns-in-Equal : goal.returns-in-Equal
 returns-in-Equal c =
     let step : Advances c.args.image.now c.loop-e.c c.in-Entry.e c.in-Entry.behind = advanced c.advance.ensures c.in-Entry.is in
-    kept_met (kept_same c.loop-e.invariant.1 (step).moves.rest) (found_met _ _ _ _ _ c.probe.ensures c.in-Equal.is)
+    kept_met (kept_same c.loop-e.invariant.1 step.moves.rest) (found_met _ _ _ _ _ c.probe.ensures c.in-Equal.is)
 
 pub returns-in-Full : goal.returns-in-Full
 returns-in-Full c = tt

@@ -4,15 +4,14 @@ use Prim.Native.Nat.{ℕ}
 use mathlib.Core.Path.{refl, sym, ap, ◌∙◌}
 use mathlib.Core.Bool.{◌&&◌, and-true}
 use mathlib.Core.List.{List}
-use mathlib.Core.Logic.{⊎_elim}
 use native.Mathlib.Omega.{arith}
 use lib.ListN.{length}
-use borrow.Author.Tests.{not-true, not-false}
 use Rattle.model.specs.Lists.{every}
 use Rattle.model.specs.Check.{good_number}
 use Rattle.directory.specs.Cursor.{Moves}
 use Rattle.directory.proofs.Each.{moved, ended, failed, six_more, six_none, six_fails, differs}
 use Rattle.directory.proofs.Tests.{every_pass, every_fail}
+use Rattle.checks.proofs.tally.count_entries.Goals.{then-not-good_number, else-not-good_number}
 use Rattle.checks.proofs.tally.count_entries.Goals as goal
 
 pub loop-e-init : goal.loop-e-init
@@ -24,7 +23,7 @@ next-requires c = c.loop-e.invariant.0
 pub good_number-requires : goal.good_number-requires
 good_number-requires c =
     let step : Moves c.args.image.now c.loop-e.c c.in-Entry.e c.in-Entry.behind = moved c.next.ensures c.in-Entry.is in
-    (step).stands
+    step.stands
 
 pub overflow_add-count : goal.overflow_add-count
 overflow_add-count c =
@@ -42,13 +41,16 @@ loop-e-preserved c =
     let l = c.loop-e in
     let m = step in
     let long = ap (length {A = List ℕ}) m.rest in
-    let good = sym c.good_number.ensures in
-    let numbers =
-    ⊎_elim (λ w. every_fail m.rest (good_number _) l.numbered c.if-not-good_number.numbered (good ∙ not-true _ w.0.taken) w.1)
-    (λ w. every_pass m.rest (good_number _) l.numbered c.if-not-good_number.numbered (good ∙ not-false _ w.0.left) w.1)
-    c.if-not-good_number.branch
-    in
-    (m.fits, omega arith, l.invariant.2 ∙ six_more m, omega arith, l.invariant.4 ∙ numbers)
+    let good = sym c.good_number.ensures in (
+      m.fits,
+      omega arith,
+      l.invariant.2 ∙ six_more m,
+      omega arith,
+      l.invariant.4 ∙ elim c.if-not-good_number.branch [
+        | then-not-good_number w ↦ every_fail m.rest (good_number _) l.numbered c.if-not-good_number.numbered (good ∙ w.if-not-good_number.true) w.numbered-is
+        | else-not-good_number w ↦ every_pass m.rest (good_number _) l.numbered c.if-not-good_number.numbered (good ∙ w.if-not-good_number.false) w.numbered-is
+      ],
+    )
 
 pub returns-in-End : goal.returns-in-End
 unfolding every

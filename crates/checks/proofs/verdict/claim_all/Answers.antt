@@ -1,29 +1,9 @@
 -- `claim_all` meets its contract. The loop's invariant: to claim all forks is to claim those from c on, from the marks as they are.
 -- Assumes nothing.
-use Prim.Native.Nat.{ℕ}
-use mathlib.Core.List.{List, ◌∷◌}
-use borrow.Author.Tests.{not-true, not-false}
-use Rattle.model.specs.Directory.{fork_of, forks_in}
-use Rattle.model.specs.declared.ForkFacts.{ForkFacts}
-use Rattle.model.specs.declared.Fork.{Fork}
-use Rattle.model.specs.declared.Fork.TheVariants.{Data, Resource}
-use Rattle.blockmap.specs.Decoded.{decoded_entry}
-use Rattle.directory.specs.Cursor.{rest_of, bytes_at, Advances}
+use Rattle.directory.specs.Cursor.{Advances}
 use Rattle.directory.proofs.Each.{advanced, none_left}
-use Rattle.checks.proofs.Claims.{Onward, onward_none, onward_same, onward_end, onward_claim, onward_not, forks_more, forks_none}
+use Rattle.checks.proofs.Claims.{onward_none, onward_same, onward_end, onward_claim, onward_not, forks_more, forks_none}
 use Rattle.checks.proofs.verdict.claim_all.Goals as goal
-
-abbrev own : tie.After-e invariant-loop decreases-loop → Fork → ForkFacts
-own c fork = fork_of fork (bytes_at (start c).args.image.now c.e.given.0.0)
-
-abbrev behind : tie.After-e invariant-loop decreases-loop → List ForkFacts
-behind c = forks_in (rest_of (start c).args.image.now c.e.given.0.1.0)
-
--- to claim all forks is to claim these from the marks u
-abbrev Left : tie.After-e invariant-loop decreases-loop → List ℕ → List ForkFacts → Type 0
-Left c u hs =
-    let a = (start c).args in
-    Onward (decoded_entry a.entries.now) a.n a.a a.marks.now (forks_in (rest_of a.image.now a.from)) u hs
 
 pub loop-e-init : goal.loop-e-init
 loop-e-init c = (c.requires.passes, onward_none)
@@ -31,7 +11,7 @@ loop-e-init c = (c.requires.passes, onward_none)
 pub read_fork-data-requires : goal.read_fork-data-requires
 read_fork-data-requires c =
     let step : Advances c.args.image.now c.loop-e.c c.in-Entry.e c.in-Entry.behind = advanced c.advance.ensures c.in-Entry.is in
-    (step).moves.stands
+    step.moves.stands
 
 pub claim_fork-requires : goal.claim_fork-requires
 claim_fork-requires c = c.requires.n_bound
@@ -39,13 +19,13 @@ claim_fork-requires c = c.requires.n_bound
 pub returns-then-not-claim_fork : goal.returns-then-not-claim_fork
 returns-then-not-claim_fork c =
     let step : Advances c.args.image.now c.loop-e.c c.in-Entry.e c.in-Entry.behind = advanced c.advance.ensures c.in-Entry.is in
-    let first : Left c c.loop-e.marks (own c Data ∷ own c Resource ∷ behind c) = onward_same c.loop-e.invariant.1 (forks_more (step).moves.rest) in
-    onward_not (first) c.read_fork-data.ensures c.claim_fork.ensures.answer (not-true _ c.if-not-claim_fork.true)
+    let first = onward_same c.loop-e.invariant.1 (forks_more step.moves.rest) in
+    onward_not first c.read_fork-data.ensures c.claim_fork.ensures.answer c.if-not-claim_fork.true
 
 pub read_fork-resource-requires : goal.read_fork-resource-requires
 read_fork-resource-requires c =
     let step : Advances c.args.image.now c.loop-e.c c.in-Entry.e c.in-Entry.behind = advanced c.advance.ensures c.in-Entry.is in
-    (step).moves.stands
+    step.moves.stands
 
 pub claim_fork-requires-in-Entry : goal.claim_fork-requires-in-Entry
 claim_fork-requires-in-Entry c = c.requires.n_bound
@@ -53,25 +33,23 @@ claim_fork-requires-in-Entry c = c.requires.n_bound
 pub returns-then-not-claim_fork-2 : goal.returns-then-not-claim_fork-2
 returns-then-not-claim_fork-2 c =
     let step : Advances c.args.image.now c.loop-e.c c.in-Entry.e c.in-Entry.behind = advanced c.advance.ensures c.in-Entry.is in
-    let first : Left c c.loop-e.marks (own c Data ∷ own c Resource ∷ behind c) = onward_same c.loop-e.invariant.1 (forks_more (step).moves.rest) in
-    let second : Left c c.claim_fork.new.marks (own c Resource ∷ behind c) = onward_claim (first) c.read_fork-data.ensures c.claim_fork.ensures.answer
-    (not-false _ c.if-not-claim_fork.false) c.claim_fork.ensures.after in
-    onward_not (second) c.read_fork-resource.ensures c.claim_fork-in-Entry.ensures.answer (not-true _ c.if-not-claim_fork-2.true)
+    let first = onward_same c.loop-e.invariant.1 (forks_more step.moves.rest) in
+    let second = onward_claim first c.read_fork-data.ensures c.claim_fork.ensures.answer c.if-not-claim_fork.false c.claim_fork.ensures.after in
+    onward_not second c.read_fork-resource.ensures c.claim_fork-in-Entry.ensures.answer c.if-not-claim_fork-2.true
 
 pub loop-e-smaller : goal.loop-e-smaller
 loop-e-smaller c =
     let step : Advances c.args.image.now c.loop-e.c c.in-Entry.e c.in-Entry.behind = advanced c.advance.ensures c.in-Entry.is in
-    (step).moves.less
+    step.moves.less
 
 pub loop-e-preserved : goal.loop-e-preserved
 loop-e-preserved c =
     let step : Advances c.args.image.now c.loop-e.c c.in-Entry.e c.in-Entry.behind = advanced c.advance.ensures c.in-Entry.is in
-    let first : Left c c.loop-e.marks (own c Data ∷ own c Resource ∷ behind c) = onward_same c.loop-e.invariant.1 (forks_more (step).moves.rest) in
-    let second : Left c c.claim_fork.new.marks (own c Resource ∷ behind c) = onward_claim (first) c.read_fork-data.ensures c.claim_fork.ensures.answer
-    (not-false _ c.if-not-claim_fork.false) c.claim_fork.ensures.after in (
-      (step).passes,
-      onward_claim (second) c.read_fork-resource.ensures c.claim_fork-in-Entry.ensures.answer
-          (not-false _ c.if-not-claim_fork-2.false) c.claim_fork-in-Entry.ensures.after,
+    let first = onward_same c.loop-e.invariant.1 (forks_more step.moves.rest) in
+    let second = onward_claim first c.read_fork-data.ensures c.claim_fork.ensures.answer c.if-not-claim_fork.false c.claim_fork.ensures.after in (
+      step.passes,
+      onward_claim second c.read_fork-resource.ensures c.claim_fork-in-Entry.ensures.answer
+          c.if-not-claim_fork-2.false c.claim_fork-in-Entry.ensures.after,
     )
 
 pub returns-in-End : goal.returns-in-End

@@ -4,7 +4,8 @@ use mathlib.Core.Bool.{false}
 use native.Mathlib.Omega.{arith}
 use lib.ListN.{length}
 use borrow.Author.Tests.{not-true, not-false}
-use Rattle.model.specs.Check.{fires6}
+use Rattle.model.specs.Lists.{every}
+use Rattle.model.specs.Check.{fires6, good_number}
 use Rattle.directory.specs.Cursor.{rest_of}
 use Rattle.checks.proofs.Numbers.{number_6, number_count, number_number, number_clash, number_clear}
 use Rattle.checks.proofs.verdict.directory_number.Goals as goal
@@ -16,13 +17,13 @@ pub returns-then-t-files : goal.returns-then-t-files
 returns-then-t-files c =
     let six : fires6 (rest_of c.args.image.now c.args.c) ≡ false = sym c.count_entries-t.ensures.six ∙ c.if-t.false in
     let counted : c.count_entries-t.result.count ≡ length (rest_of c.args.image.now c.args.c) = c.count_entries-t.ensures.counted c.if-t.false in
-    number_count _ _ _ (six) (λ q. omega (arith, counted))
+    number_count _ _ _ six (λ q. omega (arith, counted))
 
 pub returns-then-not-t : goal.returns-then-not-t
 returns-then-not-t c =
     let six : fires6 (rest_of c.args.image.now c.args.c) ≡ false = sym c.count_entries-t.ensures.six ∙ c.if-t.false in
-    let tested : ? = ? in
-    number_number _ _ _ (six) (tested ∙ not-true _ c.if-not-t.true)
+    let tested : every (good_number c.args.next) (rest_of c.args.image.now c.args.c) ≡ c.count_entries-t.result.numbered = sym (c.count_entries-t.ensures.tested c.if-t.false) in
+    number_number _ _ _ six (tested ∙ not-true _ c.if-not-t.true)
 
 pub all_differ-requires : goal.all_differ-requires
 all_differ-requires c =
@@ -32,14 +33,14 @@ all_differ-requires c =
 pub returns-then-not-all_differ : goal.returns-then-not-all_differ
 returns-then-not-all_differ c =
     let six : fires6 (rest_of c.args.image.now c.args.c) ≡ false = sym c.count_entries-t.ensures.six ∙ c.if-t.false in
-    number_clash _ _ _ (six) (sym c.all_differ.ensures ∙ not-true _ c.if-not-all_differ.true)
+    number_clash _ _ _ six (sym c.all_differ.ensures ∙ c.if-not-all_differ.true)
 
 pub returns : goal.returns
 returns c =
     let six : fires6 (rest_of c.args.image.now c.args.c) ≡ false = sym c.count_entries-t.ensures.six ∙ c.if-t.false in
     let counted : c.count_entries-t.result.count ≡ length (rest_of c.args.image.now c.args.c) = c.count_entries-t.ensures.counted c.if-t.false in
-    let tested : ? = ? in
-    number_clear _ _ _ (six)
+    let tested : every (good_number c.args.next) (rest_of c.args.image.now c.args.c) ≡ c.count_entries-t.result.numbered = sym (c.count_entries-t.ensures.tested c.if-t.false) in
+    number_clear _ _ _ six
     (omega (arith, counted))
     (tested ∙ not-false _ c.if-not-t.false)
-    (sym c.all_differ.ensures ∙ not-false _ c.if-not-all_differ.false)
+    (sym c.all_differ.ensures ∙ c.if-not-all_differ.false)
