@@ -61,7 +61,7 @@ returns-then-too_long c =
 pub returns-then-f-eq-LAST_NUMBER : goal.returns-then-f-eq-LAST_NUMBER
 unfolding Fits
 returns-then-f-eq-LAST_NUMBER c =
-    let image-octets : Bytes c.args.image.now = octets _ c.type_inv.image in
+    let image-octets : Bytes c.args.image.now = octets _ c.slice_known-1.given in
     let fits : Fits (create c.args.name.now c.args.finder.now c.args.created c.args.changed) = (
       octets _ c.type_inv.name,
       c.whole.ensures.1,

@@ -44,7 +44,7 @@ returns-else-logical-offset c =
     let image-bytes : Bytes c.args.image.now = octets _ c.type_inv.image in
     let letters : Bytes c.args.name.now = octets _ c.type_inv.name in
     let fits : c.args.offset < 2 ^ 64 = omega (arith, c.ranges.offset) in
-    let room : Bytes c.args.buffer.now = octets _ c.type_inv.buffer in
+    let room : Bytes c.args.buffer.now = octets _ c.slice_known-1.given in
     let file : let a = c.args in
     NamedEntry a.image.now a.name.now c.in-At.field-0 c.in-At.e = names_file c.lookup.ensures c.in-At.is in
     read_served c.requires (image-bytes) (letters) (fits) (room) (file) c.read_fork-g.ensures c.if-logical-offset.false

@@ -1,6 +1,6 @@
 -- `checksum` meets its contract. The loop's invariant: the sum so far, with the words that are left, comes to the checksum.
 -- Assumes nothing.
-use Rattle.std.proofs.Common.{◌≡◌, ◌+◌, ◌-◌, drop, sym, refl, ap, ◌∙◌, arith, length-drop}
+use Rattle.std.proofs.Common.{◌≡◌, ◌+◌, drop, sym, refl, ap, ◌∙◌, arith, length-drop}
 use Rattle.model.specs.Bytes.{be16}
 use Rattle.model.specs.Container.{added, summed, checksum}
 use Rattle.container.proofs.Summing.{next, ends}
