@@ -56,7 +56,7 @@ pub overflow_cast-has : goal.overflow_cast-has
 unfolding block_count
 overflow_cast-has c =
     let held : FileAt c.args.f c.args.image.now c.args.e = c.requires.fork_at.held in
-    let blocks-few : c.args.g.physical / A c.args.f + c.args.new ≤ 640 = grown_few held.args.fork c.args.g c.requires.fork_at.is c.args.new c.requires.offset_le_logical.2 in
+    let blocks-few : c.args.g.physical / A c.args.f + c.args.new ≤ 640 = grown_few held c.args.fork c.args.g c.requires.fork_at.is c.args.new c.requires.offset_le_logical.2 in
     let has-is : c.block_count-has.result ≡ c.args.g.physical / A c.args.f = c.block_count-has.ensures in
     rw (has-is) (count_fits _ _ (blocks-few))
 
@@ -77,7 +77,7 @@ pub overflow_add-blocks : goal.overflow_add-blocks
 unfolding block_count
 overflow_add-blocks c =
     let held : FileAt c.args.f c.args.image.now c.args.e = c.requires.fork_at.held in
-    let blocks-few : c.args.g.physical / A c.args.f + c.args.new ≤ 640 = grown_few held.args.fork c.args.g c.requires.fork_at.is c.args.new c.requires.offset_le_logical.2 in
+    let blocks-few : c.args.g.physical / A c.args.f + c.args.new ≤ 640 = grown_few held c.args.fork c.args.g c.requires.fork_at.is c.args.new c.requires.offset_le_logical.2 in
     let has-is : c.block_count-has.result ≡ c.args.g.physical / A c.args.f = c.block_count-has.ensures in
     rw (has-is) (sum_fits _ _ (blocks-few))
 
@@ -86,7 +86,7 @@ unfolding block_count
 fill_fork-requires c =
     let held : FileAt c.args.f c.args.image.now c.args.e = c.requires.fork_at.held in
     let bytes_fit : max c.args.g.logical (c.args.offset + length c.args.bytes.now)
-    ≤ (c.args.g.physical / A c.args.f + c.args.new) * A c.args.f = grown_fits held.args.fork c.args.g c.requires.fork_at.is c.args.new c.requires.offset_le_logical.2
+    ≤ (c.args.g.physical / A c.args.f + c.args.new) * A c.args.f = grown_fits held c.args.fork c.args.g c.requires.fork_at.is c.args.new c.requires.offset_le_logical.2
     c.args.offset c.args.bytes.now c.requires.offset_le_logical.0 c.requires.offset_le_logical.1 in
     let has-is : c.block_count-has.result ≡ c.args.g.physical / A c.args.f = c.block_count-has.ensures in
     let chain-put : let a = c.args in c.extend-start.new.image ≡ put_chain a.image.now (grown_blocks a.f a.image.now a.g a.new) = rw (has-is) at c.extend-start.ensures.after in
@@ -101,18 +101,18 @@ pub overflow_cast-g : goal.overflow_cast-g
 overflow_cast-g c =
     let held : FileAt c.args.f c.args.image.now c.args.e = c.requires.fork_at.held in
     let bytes_fit : max c.args.g.logical (c.args.offset + length c.args.bytes.now)
-    ≤ (c.args.g.physical / A c.args.f + c.args.new) * A c.args.f = grown_fits held.args.fork c.args.g c.requires.fork_at.is c.args.new c.requires.offset_le_logical.2
+    ≤ (c.args.g.physical / A c.args.f + c.args.new) * A c.args.f = grown_fits held c.args.fork c.args.g c.requires.fork_at.is c.args.new c.requires.offset_le_logical.2
     c.args.offset c.args.bytes.now c.requires.offset_le_logical.0 c.requires.offset_le_logical.1 in
-    let bytes_most : (c.args.g.physical / A c.args.f + c.args.new) * A c.args.f ≤ 20971520 = grown_most held.args.fork c.args.g c.requires.fork_at.is c.args.new c.requires.offset_le_logical.2 in
+    let bytes_most : (c.args.g.physical / A c.args.f + c.args.new) * A c.args.f ≤ 20971520 = grown_most held c.args.fork c.args.g c.requires.fork_at.is c.args.new c.requires.offset_le_logical.2 in
     first_fits _ _ _ (bytes_fit) (bytes_most)
 
 pub overflow_add-offset : goal.overflow_add-offset
 overflow_add-offset c =
     let held : FileAt c.args.f c.args.image.now c.args.e = c.requires.fork_at.held in
     let bytes_fit : max c.args.g.logical (c.args.offset + length c.args.bytes.now)
-    ≤ (c.args.g.physical / A c.args.f + c.args.new) * A c.args.f = grown_fits held.args.fork c.args.g c.requires.fork_at.is c.args.new c.requires.offset_le_logical.2
+    ≤ (c.args.g.physical / A c.args.f + c.args.new) * A c.args.f = grown_fits held c.args.fork c.args.g c.requires.fork_at.is c.args.new c.requires.offset_le_logical.2
     c.args.offset c.args.bytes.now c.requires.offset_le_logical.0 c.requires.offset_le_logical.1 in
-    let bytes_most : (c.args.g.physical / A c.args.f + c.args.new) * A c.args.f ≤ 20971520 = grown_most held.args.fork c.args.g c.requires.fork_at.is c.args.new c.requires.offset_le_logical.2 in
+    let bytes_most : (c.args.g.physical / A c.args.f + c.args.new) * A c.args.f ≤ 20971520 = grown_most held c.args.fork c.args.g c.requires.fork_at.is c.args.new c.requires.offset_le_logical.2 in
     second_fits _ _ _ (bytes_fit) (bytes_most)
 
 pub larger-requires : goal.larger-requires
@@ -122,9 +122,9 @@ pub overflow_cast-after : goal.overflow_cast-after
 overflow_cast-after c =
     let held : FileAt c.args.f c.args.image.now c.args.e = c.requires.fork_at.held in
     let bytes_fit : max c.args.g.logical (c.args.offset + length c.args.bytes.now)
-    ≤ (c.args.g.physical / A c.args.f + c.args.new) * A c.args.f = grown_fits held.args.fork c.args.g c.requires.fork_at.is c.args.new c.requires.offset_le_logical.2
+    ≤ (c.args.g.physical / A c.args.f + c.args.new) * A c.args.f = grown_fits held c.args.fork c.args.g c.requires.fork_at.is c.args.new c.requires.offset_le_logical.2
     c.args.offset c.args.bytes.now c.requires.offset_le_logical.0 c.requires.offset_le_logical.1 in
-    let bytes_most : (c.args.g.physical / A c.args.f + c.args.new) * A c.args.f ≤ 20971520 = grown_most held.args.fork c.args.g c.requires.fork_at.is c.args.new c.requires.offset_le_logical.2 in
+    let bytes_most : (c.args.g.physical / A c.args.f + c.args.new) * A c.args.f ≤ 20971520 = grown_most held c.args.fork c.args.g c.requires.fork_at.is c.args.new c.requires.offset_le_logical.2 in
     larger-fits _ _ _ _ c.larger.ensures (bytes_fit) (bytes_most)
 
 pub store_fork-requires : goal.store_fork-requires
@@ -163,8 +163,24 @@ returns c =
     c.fill_fork.new.image ≡ grown_base a.f a.image.now a.g a.new a.offset a.bytes.now = grown_stored (held) c.args.fork c.args.g c.requires.fork_at.is c.args.new c.requires.offset_le_logical.2
     c.extend-start.new.image c.extend-start.result.0 (chain-put) (first-is)
     c.args.offset c.args.bytes.now c.fill_fork.new.image (rw (has-is) at c.fill_fork.ensures) in
-    grown_written h c.args.fork c.args.g c.requires.fork_at.is c.args.new c.requires.offset_le_logical.2
+    λ h. grown_written h c.args.fork c.args.g c.requires.fork_at.is c.args.new c.requires.offset_le_logical.2
     c.args.offset c.args.bytes.now c.requires.offset_le_logical.0 c.requires.offset_le_logical.1
     c.fill_fork.new.image c.store_fork.new.image c.put_free.new.image c.extend-start.result.0 c.larger.result
     (c.block_count-has.result + c.args.new) c.args.changed
     (stored) (first-is) c.larger.ensures (ap (λ (n : ℕ). n + c.args.new) (has-is)) c.store_fork.ensures c.put_free.ensures
+
+pub overflow_cast-after-2 : goal.overflow_cast-after-2
+unfolding block_count
+overflow_cast-after-2 c =
+    let held : FileAt c.args.f c.args.image.now c.args.e = c.requires.fork_at.held in
+    let blocks-few : c.args.g.physical / A c.args.f + c.args.new ≤ 640 = grown_few held c.args.fork c.args.g c.requires.fork_at.is c.args.new c.requires.offset_le_logical.2 in
+    let has-is : c.block_count-has.result ≡ c.args.g.physical / A c.args.f = c.block_count-has.ensures in
+    rw (has-is) (sum-wide _ _ (blocks-few))
+
+pub overflow_mul-after : goal.overflow_mul-after
+unfolding block_count
+overflow_mul-after c =
+    let held : FileAt c.args.f c.args.image.now c.args.e = c.requires.fork_at.held in
+    let bytes_most : (c.args.g.physical / A c.args.f + c.args.new) * A c.args.f ≤ 20971520 = grown_most held c.args.fork c.args.g c.requires.fork_at.is c.args.new c.requires.offset_le_logical.2 in
+    let has-is : c.block_count-has.result ≡ c.args.g.physical / A c.args.f = c.block_count-has.ensures in
+    rw (has-is) (room_fits _ (bytes_most))
