@@ -13,15 +13,15 @@ pub overflow_cast-size : goal.overflow_cast-size
 overflow_cast-size c =
     let fork : let a = c.args in
     ChangeableFork a.image.now a.name.now a.fork a.size c.in-At.e c.in-At.g = changed_fork_lem c.changeable_fork.ensures c.in-At.is in
-    omega (arith, (fork).within, c.known_told-in-At-1.given)
+    omega (arith, fork.within)
 
 pub shorten_fork-requires : goal.shorten_fork-requires
 shorten_fork-requires c =
     let fork : let a = c.args in
     ChangeableFork a.image.now a.name.now a.fork a.size c.in-At.e c.in-At.g = changed_fork_lem c.changeable_fork.ensures c.in-At.is in
     record {
-      fork_at = changed_fork_at c.requires (fork);
-      size_le_logical = (fork).within;
+      fork_at = changed_fork_at c.requires fork;
+      size_le_logical = fork.within;
     }
 
 pub returns-in-Refused : goal.returns-in-Refused
@@ -30,7 +30,7 @@ returns-in-Refused c =
     let fits : Fits (cut c.args.name.now c.args.fork c.args.size c.args.changed) = cut_fits c.args.name.now c.args.fork c.args.size c.args.changed
     (octets _ c.type_inv.name) (omega arith) (omega arith) in
     let a = c.args in
-    refused c.requires (image-bytes) cut_changing (fits) (changed_no_fork a.fork a.size c.changeable_fork.ensures c.in-Refused.is)
+    refused c.requires image-bytes cut_changing fits (changed_no_fork a.fork a.size c.changeable_fork.ensures c.in-Refused.is)
 
 pub returns-in-At : goal.returns-in-At
 returns-in-At c =
@@ -39,4 +39,4 @@ returns-in-At c =
     (octets _ c.type_inv.name) (omega arith) (omega arith) in
     let fork : let a = c.args in
     ChangeableFork a.image.now a.name.now a.fork a.size c.in-At.e c.in-At.g = changed_fork_lem c.changeable_fork.ensures c.in-At.is in
-    cut_served c.requires (image-bytes) (fork) (fits) c.shorten_fork.ensures
+    cut_served c.requires image-bytes fork fits c.shorten_fork.ensures

@@ -1,7 +1,6 @@
 -- `shorten_fork` meets its contract. Assumes nothing.
 use Prim.Native.Nat.{◌/◌, ◌≤◌}
 use mathlib.Core.Path.{◌≡◌}
-use mathlib.Core.Logic.{⊎_elim}
 use native.Mathlib.Omega.{arith}
 use lib.ListN.{take}
 use Rattle.model.specs.Lists.{first_or0}
@@ -9,8 +8,9 @@ use Rattle.model.specs.Map.{map_entry, chain_blocks}
 use Rattle.model.specs.Directory.{block_count}
 use Rattle.files.proofs.Forks.{large_block, long_image}
 use Rattle.files.proofs.Owned.{few, fork_runs}
-use Rattle.call_cut.proofs.Kept.{no_start, same_start, has_most, keeps_within, free_small, cut_stands, cut_leaves}
+use Rattle.call_cut.proofs.Kept.{no_start, same_start, has_most, keeps_within, keeps_small, free_small, cut_stands, cut_leaves}
 use Rattle.call_cut.proofs.shorten.shorten_fork.Goals as goal
+use Rattle.call_cut.proofs.shorten.shorten_fork.Goals.{then-keep-eq0, else-keep-eq0}
 
 pub block_count-has-requires : goal.block_count-has-requires
 block_count-has-requires c = large_block c.requires.fork_at.held.readable
@@ -72,9 +72,12 @@ returns c =
     let e = map_entry a.image.now in
     let has = c.block_count-has.result in
     let keep = c.fewest_blocks-keep.result in
-    ⊎_elim
-    (λ w. no_start (chain_blocks e has a.g.start.0) keep c.if-keep-eq0.start w.0.taken w.1)
-    (λ w. same_start e has a.g.start.0 keep c.if-keep-eq0.start (within) w.0.left w.1)
-    c.if-keep-eq0.branch in
+    elim c.if-keep-eq0.branch [
+      | then-keep-eq0 w ↦ no_start (chain_blocks e has a.g.start.0) keep c.if-keep-eq0.start w.if-keep-eq0.true w.start-is
+      | else-keep-eq0 w ↦ same_start e has a.g.start.0 keep c.if-keep-eq0.start within w.if-keep-eq0.false w.start-is
+    ] in
     cut_leaves c.requires.fork_at c.args.size c.requires.size_le_logical c.args.changed c.block_count-has.result c.fewest_blocks-keep.result c.if-keep-eq0.start _ _ _
     (has-is) c.fewest_blocks-keep.ensures (starts) c.shorten.ensures c.store_fork.ensures c.put_free.ensures
+
+pub overflow_mul-after : goal.overflow_mul-after
+overflow_mul-after c = rw c.fewest_blocks-keep.ensures (omega (arith, keeps_small c.requires.fork_at c.args.size c.requires.size_le_logical))
