@@ -17,7 +17,7 @@ pub returns-then-is_locked : goal.returns-then-is_locked
 returns-then-is_locked c =
     let image-octets : Bytes c.args.image.now = octets _ c.type_inv.image in
     let fits : Fits (rename c.args.name.now c.args.new.now c.args.changed) = rename_fits c.args.name.now c.args.new.now c.args.changed
-    (octets _ c.shared_slice_known-1.given) (octets _ c.shared_slice_known-2-1.given) (omega (arith, c.ranges.changed)) in
+    (octets _ c.type_inv.name) (octets _ c.type_inv.new) (omega (arith, c.ranges.changed)) in
     rename_locked c.requires (image-octets) (fits) (sym c.is_locked.ensures ∙ c.if-is_locked.true)
 
 pub returns-then-bad_name : goal.returns-then-bad_name
@@ -65,7 +65,7 @@ names_another-requires c =
 
 pub returns-then-names_another : goal.returns-then-names_another
 returns-then-names_another c =
-    let image-octets : Bytes c.args.image.now = octets _ c.type_inv.image in
+    let image-octets : Bytes c.args.image.now = octets _ c.slice_known-1.given in
     let fits : Fits (rename c.args.name.now c.args.new.now c.args.changed) = rename_fits c.args.name.now c.args.new.now c.args.changed
     (octets _ c.type_inv.name) (octets _ c.type_inv.new) (omega (arith, c.ranges.changed)) in
     let unlocked : is_locked c.args.f ≡ false = sym c.is_locked.ensures ∙ c.if-is_locked.false in

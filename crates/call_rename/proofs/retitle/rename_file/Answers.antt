@@ -32,7 +32,7 @@ rename_entry-requires c =
     }
 
 pub returns-then-size-entry_size : goal.returns-then-size-entry_size
-returns-then-size-entry_size c =
+returns-then-size-entry_size c h =
     let same : let a = c.args in size_for (length a.new.now) ≡ size_for a.e.name_length = sym c.entry_size-size.ensures ∙ c.if-size-entry_size.true ∙ c.entry_size.ensures in
     stays h c.args.new.now c.requires.value c.args.changed (same) _ c.rename_entry.ensures
 
@@ -43,10 +43,14 @@ pub find_room_without-requires : goal.find_room_without-requires
 find_room_without-requires c =
     let title : GoodName c.args.new.now = good_name c.args.new.now c.requires.value in
     let h = c.requires.file_at in
-    let b = c.first_entry.ensures in (
-      first_passes h.readable b,
-      (b.at, (small _ _ c.entry_size-size.ensures (title).short, (h.found.there.stands, lies_from h b))),
-    )
+    let b = c.first_entry.ensures in
+    record {
+      passes = first_passes h.readable b;
+      at_value = b.at;
+      size_bound = small _ _ c.entry_size-size.ensures (title).short;
+      stands = h.found.there.stands;
+      lies = lies_from h b;
+    }
 
 pub remove_entry-requires : goal.remove_entry-requires
 remove_entry-requires c =
@@ -71,13 +75,13 @@ insert_with_head-requires c =
     }
 
 pub returns-in-Nothing : goal.returns-in-Nothing
-returns-in-Nothing c =
+returns-in-Nothing c h =
     let differ : let a = c.args in size_for (length a.new.now) ≡ size_for a.e.name_length → ⊥ = λ p. c.if-size-entry_size.false (c.entry_size-size.ensures ∙ p ∙ sym c.entry_size.ensures) in
     stuck h c.args.new.now c.requires.value c.args.changed (differ) c.first_entry.ensures _ c.entry_size-size.ensures _
     c.find_room_without.ensures c.in-Nothing.is
 
 pub returns-in-At : goal.returns-in-At
-returns-in-At c =
+returns-in-At c h =
     let differ : let a = c.args in size_for (length a.new.now) ≡ size_for a.e.name_length → ⊥ = λ p. c.if-size-entry_size.false (c.entry_size-size.ensures ∙ p ∙ sym c.entry_size.ensures) in
     moves h c.args.new.now c.requires.value c.args.changed (differ) c.first_entry.ensures _ c.entry_size-size.ensures _
     c.find_room_without.ensures _ _ c.in-At.is _ _ _ (taken_out h _ c.remove_entry.ensures) c.kept_head-head.ensures
