@@ -1,6 +1,6 @@
 -- The returns of `wrap`.
 use Prim.Native.Nat.{ℕ, ◌<◌}
-use mathlib.Core.Path.{◌≡◌, refl, sym, ap, ◌∙◌}
+use mathlib.Core.Path.{◌≡◌, refl, sym, ◌∙◌}
 use mathlib.Core.Bool.{true, false}
 use mathlib.Core.List.{List}
 use native.Mathlib.Omega.{arith}
@@ -8,7 +8,7 @@ use lib.ListN.{length}
 use Rattle.model.specs.Bytes.{Bytes}
 use Rattle.model.specs.Check.{verdict}
 use Rattle.model.specs.Container.{bad_lengths, wrapping}
-use Rattle.model.specs.Calls.{Call, Does, Fits, checks, refuses, carries, only, reply, change, lent}
+use Rattle.model.specs.Calls.{Does, Fits, checks, refuses, carries, only, reply, change, lent}
 use Rattle.model.specs.Calls.Call.{wrap}
 use Rattle.laws.proofs.Calls.{by_checks, by_own, does_refuse, does_serve}
 

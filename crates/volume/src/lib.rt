@@ -1,6 +1,7 @@
 // The calls on a volume. Each checks the image itself, and states its answer and every byte that it leaves. `make_call` ties them
 // to the claim on every list of calls.
 #![tactic(auto)]
+
 mod answer_of;
 mod changing;
 mod checking;
