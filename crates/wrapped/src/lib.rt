@@ -1,6 +1,7 @@
 // The nine calls on a wrapped file: each checks the container itself, then serves the data inside in place. `make_call` ties them
 // to the claim on every list of calls on wrapped files.
 #![tactic(auto)]
+
 mod changing;
 mod making;
 mod reading;
