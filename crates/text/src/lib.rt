@@ -1,6 +1,11 @@
 // A line of text, put together in a lent array and written whole. What the array has no room for is left out.
 #![tactic(auto)]
+
 ghost use Rattle.std.specs.Prelude.{◌≡◌, length};
+
+pub mod streams;
+
+use std::io::Write;
 
 // The most bytes of a line, its end among them.
 pub const ROOM: usize = 1_024;
@@ -62,9 +67,9 @@ pub fn put_hex(line: &mut [u8; ROOM], from: usize, bytes: &[u8]) -> usize {
     at
 }
 
-// Ends the line at a place, and writes it to standard output.
-pub fn print(line: &mut [u8; ROOM], at: usize) {
+// Ends the line at a place, and writes it.
+pub fn print<W: Write>(out: &mut W, line: &mut [u8; ROOM], at: usize) {
     let n = put(line, at, b'\n');
     let whole = &line[..];
-    io::write_all(1, first(whole, n));
+    streams::write_all(out, first(whole, n));
 }
