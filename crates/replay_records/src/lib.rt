@@ -1,4 +1,5 @@
-// The records of `replay`: their fields, read from standard input, and the lines that answer them.
+// The records of `replay`: their fields, read from an input, and the lines that answer them.
 #![tactic(auto)]
+
 pub mod input;
 pub mod line;

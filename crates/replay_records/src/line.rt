@@ -1,5 +1,6 @@
 // The line of a call: words parted by one space.
 use model::{DirectoryEntry, ForkFacts, VolumeFacts};
+use std::io::Write;
 
 // From 0, for each byte s becomes (31 s + byte) mod 4294967296.
 pub fn sum(bytes: &[u8]) -> u64 {
@@ -19,9 +20,9 @@ pub fn start(line: &mut [u8; text::ROOM], tag: u8, number: u8) -> usize {
 }
 
 // The SUM of the image, with which the line ends and is printed.
-pub fn end(line: &mut [u8; text::ROOM], from: usize, image: &[u8]) {
+pub fn end<W: Write>(out: &mut W, line: &mut [u8; text::ROOM], from: usize, image: &[u8]) {
     let at = put_number(line, from, sum(image));
-    text::print(line, at);
+    text::print(out, line, at);
 }
 
 pub fn put_number(line: &mut [u8; text::ROOM], from: usize, n: u64) -> usize {
