@@ -1,8 +1,11 @@
 // Lists a volume: an image on standard input, a line for the volume and one for each file on standard output.
 #![tactic(auto)]
+
 ghost use Rattle.std.specs.Prelude.{◌≡◌, length};
 
 use model::{DirectoryEntry, VolumeFacts};
+use std::io::{Read, Write};
+use text::streams;
 
 // The most bytes of an image: 127 blocks.
 const MOST: usize = 65_024;
@@ -41,7 +44,7 @@ fn put_number(line: &mut [u8; text::ROOM], from: usize, n: u32) -> usize {
     text::put(line, at, b' ')
 }
 
-fn print_volume(f: VolumeFacts) {
+fn print_volume<W: Write>(out: &mut W, f: VolumeFacts) {
     let bytes = f.name;
     let name = text::first(&bytes, f.name_length as usize);
     let mut line = text::empty();
@@ -53,10 +56,10 @@ fn print_volume(f: VolumeFacts) {
     at = text::put_decimal(&mut line, at, f.free_blocks as u64);
     at = text::put_bytes(&mut line, at, b" of ");
     at = text::put_decimal(&mut line, at, f.allocation_blocks as u64);
-    text::print(&mut line, at);
+    text::print(out, &mut line, at);
 }
 
-fn print_file(e: DirectoryEntry) {
+fn print_file<W: Write>(out: &mut W, e: DirectoryEntry) {
     let bytes = e.name;
     let name = text::first(&bytes, e.name_length as usize);
     let mut line = text::empty();
@@ -66,52 +69,42 @@ fn print_file(e: DirectoryEntry) {
     at = put_number(&mut line, at, e.created);
     at = put_number(&mut line, at, e.changed);
     at = put_name(&mut line, at, name);
-    text::print(&mut line, at);
+    text::print(out, &mut line, at);
 }
 
-fn refused(number: u8) {
-    io::write_all(1, b"refused ");
-    io::print_decimal(1, number as u64);
-    io::write_all(1, b"\n");
+fn refused<W: Write>(out: &mut W, number: u8) {
+    let mut line = text::empty();
+    let mut at = text::put_bytes(&mut line, 0, b"refused ");
+    at = text::put_decimal(&mut line, at, number as u64);
+    text::print(out, &mut line, at);
 }
 
-fn unreadable() {
-    io::write_all(2, b"list: standard input can't be read\n");
-}
-
-fn list(image: &[u8]) {
+fn list<W: Write>(out: &mut W, image: &[u8]) {
     let checked = volume::check(image);
     if checked.number != 0 {
-        refused(checked.number);
+        refused(out, checked.number);
         return;
     }
-    print_volume(checked.facts);
+    print_volume(out, checked.facts);
     let files = checked.facts.files as u64;
     let mut place: u64 = 0;
     while place < files {
         let found = call_read::serve_entry(image, checked.facts, place);
-        print_file(found.entry);
+        print_file(out, found.entry);
         place += 1;
     }
 }
 
 // read_full takes a read that fails for the input's end, so one more read tells them apart.
-fn main() {
+fn main(rt: HostRuntime) {
+    let mut input = rt.stdin();
+    let mut out = rt.stdout();
     let mut image = empty();
-    let n = io::read_full(0, &mut image);
+    let n = streams::read_full(&mut input, &mut image);
     let mut more = [0u8; 1];
-    let got = libc::read(0, &mut more);
-    if got == 0 {
-        list(&image[..n]);
-        return;
+    match input.read(&mut more) {
+        Ok(0) => list(&mut out, &image[..n]),
+        Ok(_) if n == MOST => streams::write_all(&mut out, b"too long\n"),
+        _ => streams::write_all(&mut rt.stderr(), b"list: standard input can't be read\n"),
     }
-    if got < 0 {
-        unreadable();
-        return;
-    }
-    if n < MOST {
-        unreadable();
-        return;
-    }
-    io::write_all(1, b"too long\n");
 }

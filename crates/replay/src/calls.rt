@@ -5,6 +5,7 @@ use crate::{Form, MOST, forms};
 use model::Fork;
 use replay_records::input::{ByteField, Field, PlaceField};
 use replay_records::{input, line};
+use std::io::{Read, Write};
 
 // The most bytes of a read's buffer.
 const MOST_READ: usize = 65_535;
@@ -16,19 +17,19 @@ fn unread() -> [u8; MOST_READ]
     [0xee; MOST_READ]
 }
 
-pub fn check(form: Form, image: &[u8]) -> bool {
+pub fn check<W: Write>(out: &mut W, form: Form, image: &[u8]) -> bool {
     let answer = forms::check(form, image);
     let mut line = text::empty();
     let mut at = line::start(&mut line, b'C', answer.number);
     if answer.number == 0 {
         at = line::put_facts(&mut line, at, answer.facts);
     }
-    line::end(&mut line, at, image);
+    line::end(out, &mut line, at, image);
     true
 }
 
-pub fn entry(form: Form, image: &[u8]) -> bool {
-    let Field::Is(place) = input::number64() else {
+pub fn entry<R: Read, W: Write>(reader: &mut R, out: &mut W, form: Form, image: &[u8]) -> bool {
+    let Field::Is(place) = input::number64(reader, out) else {
         return false;
     };
     let answer = forms::entry(form, image, place);
@@ -37,13 +38,13 @@ pub fn entry(form: Form, image: &[u8]) -> bool {
     if answer.number == 0 {
         at = line::put_entry(&mut line, at, answer.entry);
     }
-    line::end(&mut line, at, image);
+    line::end(out, &mut line, at, image);
     true
 }
 
-pub fn find(form: Form, image: &[u8]) -> bool {
+pub fn find<R: Read, W: Write>(reader: &mut R, out: &mut W, form: Form, image: &[u8]) -> bool {
     let mut name = input::name_space();
-    let Field::Is(length) = input::name(&mut name) else {
+    let Field::Is(length) = input::name(reader, out, &mut name) else {
         return false;
     };
     let answer = forms::find(form, image, text::first(&name, length as usize));
@@ -53,14 +54,14 @@ pub fn find(form: Form, image: &[u8]) -> bool {
         at = line::put_number(&mut line, at, answer.place);
         at = line::put_entry(&mut line, at, answer.entry);
     }
-    line::end(&mut line, at, image);
+    line::end(out, &mut line, at, image);
     true
 }
 
 // A wrapped file, too, is taken for a bare image. The blocks looked at are printed beside 13 too.
-pub fn quick_find(image: &[u8]) -> bool {
+pub fn quick_find<R: Read, W: Write>(reader: &mut R, out: &mut W, image: &[u8]) -> bool {
     let mut name = input::name_space();
-    let Field::Is(length) = input::name(&mut name) else {
+    let Field::Is(length) = input::name(reader, out, &mut name) else {
         return false;
     };
     let answer = volume::quick_find(image, text::first(&name, length as usize));
@@ -75,13 +76,13 @@ pub fn quick_find(image: &[u8]) -> bool {
     if answer.number == 13 {
         at = line::put_number(&mut line, at, looked);
     }
-    line::end(&mut line, at, image);
+    line::end(out, &mut line, at, image);
     true
 }
 
-pub fn block(form: Form, image: &[u8]) -> bool {
+pub fn block<R: Read, W: Write>(reader: &mut R, out: &mut W, form: Form, image: &[u8]) -> bool {
     let mut name = input::name_space();
-    let PlaceField::Is(length, fork, place) = input::place_in_fork(&mut name) else {
+    let PlaceField::Is(length, fork, place) = input::place_in_fork(reader, out, &mut name) else {
         return false;
     };
     let answer = forms::block(
@@ -96,35 +97,44 @@ pub fn block(form: Form, image: &[u8]) -> bool {
     if answer.number == 0 {
         at = line::put_number(&mut line, at, answer.block.0 as u64);
     }
-    line::end(&mut line, at, image);
+    line::end(out, &mut line, at, image);
     true
 }
 
 // Reads into the buffer, and prints the line.
-fn read_into(form: Form, image: &[u8], name: &[u8], fork: Fork, offset: u64, buffer: &mut [u8]) {
+fn read_into<W: Write>(
+    out: &mut W,
+    form: Form,
+    image: &[u8],
+    name: &[u8],
+    fork: Fork,
+    offset: u64,
+    buffer: &mut [u8],
+) {
     let answer = forms::read(form, image, name, fork, offset, buffer);
     let mut line = text::empty();
     let mut at = line::start(&mut line, b'R', answer.number);
     at = line::put_number(&mut line, at, answer.count as u64);
     at = line::put_number(&mut line, at, line::sum(buffer));
-    line::end(&mut line, at, image);
+    line::end(out, &mut line, at, image);
 }
 
-pub fn read(form: Form, image: &[u8]) -> bool {
+pub fn read<R: Read, W: Write>(reader: &mut R, out: &mut W, form: Form, image: &[u8]) -> bool {
     let mut name = input::name_space();
-    let PlaceField::Is(length, fork, offset) = input::place_in_fork(&mut name) else {
+    let PlaceField::Is(length, fork, offset) = input::place_in_fork(reader, out, &mut name) else {
         return false;
     };
-    let Field::Is(most) = input::number32() else {
+    let Field::Is(most) = input::number32(reader, out) else {
         return false;
     };
     let n = most as usize;
     let mut buffer = unread();
     if buffer.len() < n {
-        input::too_long();
+        input::too_long(out);
         return false;
     }
     read_into(
+        out,
         form,
         image,
         text::first(&name, length as usize),
@@ -143,33 +153,34 @@ fn unfilled() -> [u8; MOST]
 }
 
 // Wraps the image into the buffer, and prints the line.
-fn wrap_into(image: &[u8], name: &[u8], format: u8, buffer: &mut [u8]) {
+fn wrap_into<W: Write>(out: &mut W, image: &[u8], name: &[u8], format: u8, buffer: &mut [u8]) {
     let number = volume::wrap(image, name, format, buffer);
     let mut line = text::empty();
     let mut at = line::start(&mut line, b'K', number);
     at = line::put_number(&mut line, at, line::sum(buffer));
-    line::end(&mut line, at, image);
+    line::end(out, &mut line, at, image);
 }
 
 // A wrapped file, too, is taken for a bare image.
-pub fn wrap(image: &[u8]) -> bool {
+pub fn wrap<R: Read, W: Write>(reader: &mut R, out: &mut W, image: &[u8]) -> bool {
     let mut name = input::name_space();
-    let Field::Is(length) = input::name(&mut name) else {
+    let Field::Is(length) = input::name(reader, out, &mut name) else {
         return false;
     };
-    let ByteField::Is(format) = input::byte() else {
+    let ByteField::Is(format) = input::byte(reader, out) else {
         return false;
     };
-    let Field::Is(most) = input::number32() else {
+    let Field::Is(most) = input::number32(reader, out) else {
         return false;
     };
     let n = most as usize;
     let mut buffer = unfilled();
     if buffer.len() < n {
-        input::too_long();
+        input::too_long(out);
         return false;
     }
     wrap_into(
+        out,
         image,
         text::first(&name, length as usize),
         format,

@@ -4,6 +4,7 @@ ghost use Rattle.std.specs.Prelude.{◌≡◌, length};
 use crate::{Form, forms};
 use replay_records::input::{DateField, Field, PlaceField};
 use replay_records::{input, line};
+use std::io::{Read, Write};
 
 // The most bytes of a write.
 const MOST_WRITTEN: usize = 65_535;
@@ -16,25 +17,30 @@ fn unwritten() -> [u8; MOST_WRITTEN]
 }
 
 // The line of a call that gives back its number alone.
-fn tell(image: &[u8], tag: u8, number: u8) {
+fn tell<W: Write>(out: &mut W, image: &[u8], tag: u8, number: u8) {
     let mut line = text::empty();
     let at = line::start(&mut line, tag, number);
-    line::end(&mut line, at, image);
+    line::end(out, &mut line, at, image);
 }
 
-pub fn create(form: Form, image: &mut [u8]) -> bool {
+pub fn create<R: Read, W: Write>(
+    reader: &mut R,
+    out: &mut W,
+    form: Form,
+    image: &mut [u8],
+) -> bool {
     let mut name = input::name_space();
-    let Field::Is(length) = input::name(&mut name) else {
+    let Field::Is(length) = input::name(reader, out, &mut name) else {
         return false;
     };
     let mut finder = [0u8; 16];
-    let Field::Is(_) = input::finder(&mut finder) else {
+    let Field::Is(_) = input::finder(reader, out, &mut finder) else {
         return false;
     };
-    let DateField::Is(created) = input::date() else {
+    let DateField::Is(created) = input::date(reader, out) else {
         return false;
     };
-    let DateField::Is(changed) = input::date() else {
+    let DateField::Is(changed) = input::date(reader, out) else {
         return false;
     };
     let number = forms::create(
@@ -45,20 +51,20 @@ pub fn create(form: Form, image: &mut [u8]) -> bool {
         created,
         changed,
     );
-    tell(image, b'N', number);
+    tell(out, image, b'N', number);
     true
 }
 
-pub fn write(form: Form, image: &mut [u8]) -> bool {
+pub fn write<R: Read, W: Write>(reader: &mut R, out: &mut W, form: Form, image: &mut [u8]) -> bool {
     let mut name = input::name_space();
-    let PlaceField::Is(length, fork, offset) = input::place_in_fork(&mut name) else {
+    let PlaceField::Is(length, fork, offset) = input::place_in_fork(reader, out, &mut name) else {
         return false;
     };
     let mut bytes = unwritten();
-    let Field::Is(count) = input::bytes(&mut bytes) else {
+    let Field::Is(count) = input::bytes(reader, out, &mut bytes) else {
         return false;
     };
-    let DateField::Is(changed) = input::date() else {
+    let DateField::Is(changed) = input::date(reader, out) else {
         return false;
     };
     let number = forms::write(
@@ -70,16 +76,16 @@ pub fn write(form: Form, image: &mut [u8]) -> bool {
         text::first(&bytes, count as usize),
         changed,
     );
-    tell(image, b'W', number);
+    tell(out, image, b'W', number);
     true
 }
 
-pub fn cut(form: Form, image: &mut [u8]) -> bool {
+pub fn cut<R: Read, W: Write>(reader: &mut R, out: &mut W, form: Form, image: &mut [u8]) -> bool {
     let mut name = input::name_space();
-    let PlaceField::Is(length, fork, size) = input::place_in_fork(&mut name) else {
+    let PlaceField::Is(length, fork, size) = input::place_in_fork(reader, out, &mut name) else {
         return false;
     };
-    let DateField::Is(changed) = input::date() else {
+    let DateField::Is(changed) = input::date(reader, out) else {
         return false;
     };
     let number = forms::cut(
@@ -90,31 +96,36 @@ pub fn cut(form: Form, image: &mut [u8]) -> bool {
         size,
         changed,
     );
-    tell(image, b'U', number);
+    tell(out, image, b'U', number);
     true
 }
 
-pub fn delete(form: Form, image: &mut [u8]) -> bool {
+pub fn delete<R: Read, W: Write>(
+    reader: &mut R,
+    out: &mut W,
+    form: Form,
+    image: &mut [u8],
+) -> bool {
     let mut name = input::name_space();
-    let Field::Is(length) = input::name(&mut name) else {
+    let Field::Is(length) = input::name(reader, out, &mut name) else {
         return false;
     };
     let number = forms::delete(form, image, text::first(&name, length as usize));
-    tell(image, b'D', number);
+    tell(out, image, b'D', number);
     true
 }
 
 // A wrapped file, too, is taken for a bare image.
-pub fn rename(image: &mut [u8]) -> bool {
+pub fn rename<R: Read, W: Write>(reader: &mut R, out: &mut W, image: &mut [u8]) -> bool {
     let mut old = input::name_space();
-    let Field::Is(length) = input::name(&mut old) else {
+    let Field::Is(length) = input::name(reader, out, &mut old) else {
         return false;
     };
     let mut new = input::name_space();
-    let Field::Is(count) = input::name(&mut new) else {
+    let Field::Is(count) = input::name(reader, out, &mut new) else {
         return false;
     };
-    let DateField::Is(changed) = input::date() else {
+    let DateField::Is(changed) = input::date(reader, out) else {
         return false;
     };
     let number = volume::rename(
@@ -123,6 +134,6 @@ pub fn rename(image: &mut [u8]) -> bool {
         text::first(&new, count as usize),
         changed,
     );
-    tell(image, b'M', number);
+    tell(out, image, b'M', number);
     true
 }
