@@ -6,7 +6,7 @@
  *
  * To build it, at the root of the repository:
  *
- *     rt staticlib archive
+ *     tools/build_archive
  *     cc -std=c99 -Wall -Wextra -Werror -Iinclude examples/list_and_read.c target/staticlib/libarchive.a -o list_and_read
  *
  * Exit status: 0 done; 1 refused by a call; 2 the command could not be carried out.

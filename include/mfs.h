@@ -1,6 +1,6 @@
 /*
  * mfs.h: the calls on images of MFS disks, bare or wrapped as Disk Copy 4.2 files, for C and C++ on x86-64 Linux.
- * Build the archive by `rt staticlib archive` and link target/staticlib/libarchive.a.
+ * Build the archive by `tools/build_archive` and link target/staticlib/libarchive.a.
  *
  * The image is the whole disk, one run of bytes that the caller lends. Every call checks it first, mfs_quick_find by checks 1 to
  * 4 alone, and a call on any bytes is safe. No call keeps anything from one call to the next, allocates memory or opens a file.

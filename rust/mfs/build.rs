@@ -1,4 +1,4 @@
-//! Links the archive of the proved calls, `libarchive.a`, which `rt staticlib archive` makes.
+//! Links the archive of the proved calls, `libarchive.a`, which `tools/build_archive` makes.
 
 use std::env;
 use std::path::{Path, PathBuf};
@@ -16,8 +16,8 @@ fn main() {
     println!("cargo::rerun-if-changed={}", archive.display());
     if !archive.is_file() {
         println!(
-            "cargo::error={} is not there: make it with `rt check archive` and `rt staticlib archive`, or let the \
-             environment variable {FOLDER} name the folder that has it",
+            "cargo::error={} is not there: make it with `tools/build_archive`, or let the environment variable {FOLDER} \
+             name the folder that has it",
             archive.display()
         );
         return;
