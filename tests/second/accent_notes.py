@@ -27,8 +27,9 @@ IMAGES = ['7, both spellings, ' + text for text in (
     'two blocks')]
 IMAGES += ['0, near misses, ' + text for text in ('few files', 'many files')]
 
+# on every list; QUICK beside these on one with quick finds
 TEXTS = CALLS + ['X' + text for text in CALLS if ' 21' not in text] + (
-    RENAMES + QUICK + ['image ' + text for text in IMAGES])
+    RENAMES + ['image ' + text for text in IMAGES])
 
 # the byte stored and the byte given, for each pair both ways
 WAYS = [way for one, two in spelling.ACCENTS
@@ -69,18 +70,18 @@ class Notes:
         self.both = False       # whether the image holds both spellings
         self.stored = {}        # folded name -> name as it is stored
 
-    def fewest(self):
-        """How often each call meets that way that it meets least, and each
-        kind of image."""
-        for tag in BY_NAME + 'NMQ':
+    def fewest(self, tags):
+        """How often each of these calls meets that way that it meets least,
+        and each kind of image."""
+        for tag in BY_NAME + 'NM' + 'Q' * ('Q' in tags):
             yield min(self.spelt[(tag, place, *way)] for place in maker.PLACES
                       for way in WAYS), tag + ' by each pair at each place'
         for size in ('few', 'many'):
             yield min(self.together[(size, *way)] for way in WAYS), (
                 'each pair among %s files' % size)
 
-    def hold_ways(self):
-        for count, text in self.fewest():
+    def hold_ways(self, tags):
+        for count, text in self.fewest(tags):
             if count == 0:
                 raise SystemExit('not ' + text)
 
@@ -113,7 +114,7 @@ class Notes:
             self.together[(size, *way)] += 1
 
     def call(self, call, number):
-        """What a call met, as texts of TEXTS without an X."""
+        """What a call met, as texts of TEXTS or QUICK without an X."""
         tag = call[0]
         if self.both and number == 7:
             yield tag + ' 7, both spellings'

@@ -16,11 +16,11 @@ HERE = os.path.dirname(os.path.abspath(__file__))
 SECONDS = 60
 
 
-def passes(binary, given, wanted):
+def passes(binary, given, wanted, seconds=SECONDS):
     """Whether the program prints the bytes wanted for those given."""
     try:
         run = subprocess.run([binary], input=given, capture_output=True,
-                             timeout=SECONDS)
+                             timeout=seconds)
     except subprocess.TimeoutExpired:
         return False
     return run.returncode == 0 and run.stdout == wanted

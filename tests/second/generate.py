@@ -1,12 +1,14 @@
 """Writes the sample disks and the programs' tests into a repository.
 
-    generate.py [ROOT] [--check] [--counts] [--calls reading|all]
+    generate.py [ROOT] [--check] [--counts] [--calls reading|changing|all]
+    generate.py --quick DIR [--counts]
     generate.py --bad DIR
 
 The same bytes come out each time.  With --check nothing is written: each file
 that differs gives a line, and the exit code is then 1.  With --counts tables
 show how often each call gives each number, how often it succeeds on names of
-each length, and what else the list must contain.  With --bad only the bad
+each length, and what else the list must contain.  With --quick only the list
+with quick finds is written, as quick.in and quick.out.  With --bad only the bad
 inputs for the programs are written, NAME.in and NAME.out side by side:
 list-... for the listing, replay-..., changes-..., wrapped-..., rename-... and
 quick-... for replay.
@@ -32,16 +34,20 @@ import tapes
 import water
 import wrapped_runs
 
-# Which of the two lists of calls is the repository's: 'reading' or 'all'.
-CALLS = 'all'
-
 READING = replay.READING
 NINE = replay.NINE
 ALL = replay.ALL
 
+# The lists of calls: those that read and those that change, quick find apart;
+# and quick find among them.
+LISTS = {'reading': READING, 'changing': ALL.replace('Q', ''), 'all': ALL}
+# which of them is the repository's, and which --quick writes
+CALLS = 'changing'
+QUICK = 'all'
+
 # stdin has fewer bytes than this
-LARGEST = {'reading': 4000000, 'all': 21500000}
-FEWEST_CALLS = {'reading': 2000, 'all': 6000}
+LARGEST = {'reading': 4000000, 'changing': 20100000, 'all': 21500000}
+FEWEST_CALLS = {'reading': 2000, 'changing': 6000, 'all': 6000}
 FEWEST_EACH = 10
 
 # the numbers that each call can give
@@ -53,7 +59,6 @@ CAN_GIVE = {tag: list(range(11)) + more for tag, more in {
 # quick find, which takes a bare image that was said to be wrapped as it is
 CAN_GIVE['Q'] = CAN_GIVE['XQ'] = [0, 1, 2, 3, 4, 12, 13]
 # on a wrapped file, whose data are always 800 blocks
-WRAPPED = ['X' + tag for tag in ALL]
 CAN_GIVE.update({'X' + tag: [n for n in CAN_GIVE[tag] if n != 1]
                  + [22, 23, 24] for tag in NINE})
 # for rename a wrapped file is an image of wrong length; 0 comes where a bare
@@ -432,8 +437,10 @@ def reading_list():
     return tape
 
 
-def all_list():
-    tape = tapes.Tape()
+def changing_list(quick_finds):
+    """Quick finds stand in images of their own and among the other calls, or
+    nowhere."""
+    tape = tapes.Tape(quick_finds)
     before_the_first_image(tape, ALL)
     hall_reading(tape)
     hall_changes(tape)
@@ -456,7 +463,8 @@ def all_list():
     renames.runs(tape)
     parts.runs(tape)
     clumps.runs(tape)
-    quick.runs(tape)
+    if quick_finds:
+        quick.runs(tape)
     large_changes(tape)
     wrapped_runs.runs(tape)
     return tape
@@ -467,12 +475,18 @@ def hold(text, count):
         raise SystemExit('%s only %d times' % (text, count))
 
 
+def on_wrapped(tags):
+    """These calls on a wrapped file, and wrap."""
+    return ['X' + tag for tag in tags] + ['K']
+
+
 def make_list(calls):
     """The list, held to what it must contain."""
-    tape = {'reading': reading_list, 'all': all_list}[calls]()
+    tags = LISTS[calls]
+    changing = calls != 'reading'
+    tape = changing_list('Q' in tags) if changing else reading_list()
     counts = tape.machine.counts
-    tags = READING if calls == 'reading' else ALL
-    kinds = list(tags) + (WRAPPED + ['K'] if calls == 'all' else [])
+    kinds = list(tags) + (on_wrapped(tags) if changing else [])
     for tag in kinds:
         for number in CAN_GIVE[tag]:
             hold('%s gives %d' % (tag, number), counts[tag, number])
@@ -484,10 +498,10 @@ def make_list(calls):
                  tape.by_length[tag, kind])
     if any(tape.by_length['N', kind] for kind in tapes.LONG):
         raise SystemExit('create makes a long name')
-    if calls == 'all':
-        for text in tapes.MUST_MEET:
+    if changing:
+        for text in tapes.must_meet(tags):
             hold(text, tape.met[text])
-        tape.accents.hold_ways()
+        tape.accents.hold_ways(tags)
     if sum(counts.values()) < FEWEST_CALLS[calls]:
         raise SystemExit('too few calls')
     if len(tape.input()) >= LARGEST[calls]:
@@ -502,27 +516,26 @@ def show_table(title, tags, rows, counts):
             '%6s' % (counts[tag, row] or '.') for tag in tags))
 
 
-def show_counts(tape, sizes):
+def show_counts(tape, tags, sizes):
     counts = tape.machine.counts
-    for tags in (ALL, WRAPPED + ['K']):
-        show_table('number', tags, NUMBERS, counts)
+    for kinds in (tags, on_wrapped(tags)):
+        show_table('number', kinds, NUMBERS, counts)
         print('%-10s' % 'all' + ''.join(
             '%6d' % sum(counts[tag, number] for number in NUMBERS)
-            for tag in tags))
+            for tag in kinds))
     print('%d calls' % sum(counts.values()))
-    show_table('length', 'I' + ALL[1:], tapes.LENGTHS, tape.by_length)
-    for text in tapes.MUST_MEET:
+    show_table('length', 'I' + tags[1:], tapes.LENGTHS, tape.by_length)
+    for text in tapes.must_meet(tags):
         print('%6d %s' % (tape.met[text], text))
-    for count, text in tape.accents.fewest():
+    for count, text in tape.accents.fewest(tags):
         print('%6d %s, at least' % (count, text))
     for path, data in sizes.items():
         print('%9d %s' % (len(data), path))
 
 
-def all_files(calls):
-    """Each file's path below the root and its bytes, and the list."""
+def all_files(tape):
+    """Each file's path below the root and its bytes."""
     disk = bytes(hall.hall())
-    tape = make_list(calls)
     return {
         'samples/hall.img': disk,
         'samples/water.img': bytes(water.water()),
@@ -530,7 +543,11 @@ def all_files(calls):
         'crates/list/stdout': listing.listing(disk),
         'crates/replay/stdin': tape.input(),
         'crates/replay/stdout': tape.output(),
-    }, tape
+    }
+
+
+def quick_files(tape):
+    return {'quick.in': tape.input(), 'quick.out': tape.output()}
 
 
 # Bad inputs
@@ -723,23 +740,29 @@ def main():
                         help='write nothing; say which files differ')
     parser.add_argument('--counts', action='store_true',
                         help='show how often each call gives each number')
-    parser.add_argument('--calls', choices=('reading', 'all'), default=CALLS)
+    parser.add_argument('--calls', choices=list(LISTS), default=CALLS)
+    parser.add_argument('--quick', metavar='DIR',
+                        help='only write the list with quick finds to this'
+                        ' folder')
     parser.add_argument('--bad', metavar='DIR',
                         help='only write bad inputs to this folder')
     options = parser.parse_args()
     if options.bad:
         write_bad_inputs(options.bad)
         return 0
-    files, tape = all_files(options.calls)
+    calls = QUICK if options.quick else options.calls
+    tape = make_list(calls)
+    root = options.quick or options.root
+    files = quick_files(tape) if options.quick else all_files(tape)
     if options.counts:
-        show_counts(tape, files)
+        show_counts(tape, LISTS[calls], files)
     if options.check:
-        lines = list(differing(options.root, files))
+        lines = list(differing(root, files))
         for line in lines:
             print(line)
         return 1 if lines else 0
     for path, data in files.items():
-        path = os.path.join(options.root, path)
+        path = os.path.join(root, path)
         os.makedirs(os.path.dirname(path), exist_ok=True)
         with open(path, 'wb') as file:
             file.write(data)

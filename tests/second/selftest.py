@@ -542,8 +542,8 @@ class Runs(unittest.TestCase):
                 self.assertEqual(volume.check(image)[0], 0)
 
     def test_lists(self):
-        """Both lists hold what they must, and run as a whole."""
-        for calls in ('reading', 'all'):
+        """The lists hold what they must, and run as a whole."""
+        for calls in generate.LISTS:
             tape = generate.make_list(calls)
             self.assertEqual(replay.replay(tape.input()), tape.output())
 

@@ -40,8 +40,15 @@ MUST_MEET = (['create: ' + text for text in CREATES]
              + ['rename: ' + text for text in rename_notes.TEXTS]
              + ['parts: ' + text for text in part_notes.TEXTS]
              + ['clumps: ' + text for text in clump_notes.TEXTS]
-             + ['quick find: ' + text for text in quick_notes.TEXTS]
              + ['accents: ' + text for text in accent_notes.TEXTS])
+# and what a list with quick finds must meet beside these
+MUST_MEET_QUICK = (['quick find: ' + text for text in quick_notes.TEXTS]
+                   + ['accents: ' + text for text in accent_notes.QUICK])
+
+
+def must_meet(tags):
+    """What a list with these calls must meet."""
+    return MUST_MEET + MUST_MEET_QUICK * ('Q' in tags)
 
 
 def length_kind(name):
@@ -105,10 +112,14 @@ class Tape:
     """A list of records with the lines expected for them.  by_length counts,
     for each kind of length, the successes of each call on such a name and,
     under I, the accepted volumes that hold one, all on bare images; met counts
-    what the calls met, by the texts of MUST_MEET; accents has more counts of
-    accented names; clumps and quick know what came before a call."""
+    what the calls met, by the texts of must_meet; accents has more counts of
+    accented names; clumps and quick know what came before a call.
 
-    def __init__(self):
+    Where quick_finds is False quick finds are left out.  They change nothing,
+    so the other records and lines stay the same."""
+
+    def __init__(self, quick_finds=True):
+        self.quick_finds = quick_finds
         self.records = []
         self.machine = replay.Machine()
         self.by_length = Counter()
@@ -117,7 +128,12 @@ class Tape:
         self.clumps = clump_notes.Notes()
         self.quick = quick_notes.Notes()
 
+    def takes(self, call):
+        return self.quick_finds or call[0] != 'Q'
+
     def add(self, *call):
+        if not self.takes(call):
+            return
         record = replay.record(call)
         self.records.append(record)
         before = self.snapshot() if call[0] == 'M' else None
@@ -205,7 +221,8 @@ class Tape:
     def gives(self, number, *call):
         """Adds a call that must give this number."""
         self.add(*call)
-        self.expect(number, call)
+        if self.takes(call):
+            self.expect(number, call)
 
     def inside(self):
         """The image, or the data inside where it is a wrapped file."""
