@@ -1,6 +1,7 @@
 // The calls for programs in C and other languages: each is the call of `volume` or of `wrapped`, with a number for the fork.
 // include/mfs.h declares them.
 #![tactic(auto)]
+
 ghost use Rattle.std.specs.Prelude.{◌≡◌};
 ghost use Rattle.model.specs.Calls.{Call, Does};
 ghost use Rattle.files.specs.Told.{told_check, told_entry, told_find, told_block, told_read, told_number, told_quick_find};

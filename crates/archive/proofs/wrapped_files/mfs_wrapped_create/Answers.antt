@@ -1,0 +1,5 @@
+-- `mfs_wrapped_create` meets its contract: it is the call of `wrapped`. Assumes nothing.
+use Rattle.archive.proofs.wrapped_files.mfs_wrapped_create.Goals as goal
+
+pub returns : goal.returns
+returns c = c.create.ensures
