@@ -17,7 +17,7 @@ use Rattle.model.proofs.Container.{room, sound_passes}
 use Rattle.laws.proofs.Calls.{first_alone}
 use Rattle.laws.proofs.Containers.{inside_length, inside_bytes, renewed_same, renewed_length, renewed_inside, renewed_kept, renewed_sound}
 use Rattle.laws.proofs.Containers.{renewed_bytes, sound, content, no_tags}
-use Rattle.laws.proofs.Wrapped.{inner_answer, left_is}
+use Rattle.laws.proofs.Wrapped.{bare as no_count_of, inner_answer, left_is}
 use Rattle.history.specs.History.{History, Event, Agrees, Run, reading, step, is18, changes, InStep}
 use Rattle.history.specs.WrappedRuns.{within, WrappedRun, Outside, WrappedStep, WrappedHolds, WrappedRuns, made_wrapped, AllServe, EveryWrappedList}
 use Rattle.history.specs.EveryList.{AllFit}
@@ -44,7 +44,7 @@ module _ (e : Event) (file : List ℕ) (s : SoundContainer file) (acc : Accepted
   inner_does = record {
     bytes = inside_bytes file d.bytes;
     fits = d.fits;
-    answers = d.answers ∙ inner_answer e.call file d.serves (sound_passes file s);
+    answers = d.answers ∙ inner_answer e.call file (no_count_of e.call d.serves _ _) (sound_passes file s);
     leaves = refl;
   }
 
@@ -135,7 +135,7 @@ wrapping_unwraps image name buffer format given left acc whole size titled d =
           let e : Event = record { call = call; given = wrapped; left = kept } in
           let acc' : Accepted (inside given.buffer) = subst Accepted (sym same) acc in
           let data-left = inside_left e given.buffer whole-sound acc' w (reading (inside given.buffer)) (starts (inside given.buffer) acc') in (
-            w.answers ∙ inner_answer call given.buffer w.serves (sound_passes given.buffer whole-sound) ∙ ap (answer call) same ∙ sym b.answers,
+            w.answers ∙ inner_answer call given.buffer (no_count_of call w.serves _ _) (sound_passes given.buffer whole-sound) ∙ ap (answer call) same ∙ sym b.answers,
             data-left ∙ ap (after call) same ∙ sym b.leaves,
           ),
     )

@@ -17,7 +17,7 @@ use Rattle.laws.proofs.Refusals.{refused, done}
 use Rattle.laws.proofs.Containers.{renewed_same}
 
 -- a call that serves wrapped files carries no count beside a refusal
-bare : (call : Call) → serves_wrapped call ≡ true → (n : ℕ) (image : List ℕ) → carries call n image ≡ 0
+pub bare : (call : Call) → serves_wrapped call ≡ true → (n : ℕ) (image : List ℕ) → carries call n image ≡ 0
 unfolding serves_wrapped carries
 bare check s n image = refl
 bare (entry place) s n image = refl
@@ -47,9 +47,10 @@ module _ (call : Call) (file : List ℕ) where
   unfolding file_refusal
   inner_refusal z = first_zero (container_verdict file) (refusal call (inside file)) z
 
-  pub inner_answer : serves_wrapped call ≡ true → container_verdict file ≡ 0 → file_answer call file ≡ answer call (inside file)
+  pub inner_answer : carries call (refusal call (inside file)) (inside file) ≡ 0 → container_verdict file ≡ 0
+      → file_answer call file ≡ answer call (inside file)
   unfolding file_answer answer only
-  inner_answer s z = rw (inner_refusal z, bare call s (refusal call (inside file)) (inside file))
+  inner_answer b z = rw (inner_refusal z, b)
 
   -- what it leaves
   pub left_refused : (file_refusal call file ≡ 0 → ⊥) → file_after call file ≡ file

@@ -295,7 +295,19 @@ pub record Answer : Type 0 where
   pub count : ℕ
   pub buffer : List ℕ
 
--- an answer with nothing but a number, a count and a buffer: all other results are zero
+-- an answer with nothing but a number and a buffer: all other results are zero
+unfoldable pub only : ℕ → List ℕ → Answer
+only number buffer = record {
+  number = number;
+  facts = no_facts;
+  place = 0;
+  entry = no_entry;
+  block = record { 0 = 0 };
+  count = 0;
+  buffer = buffer;
+}
+
+-- and with a count, which quick find's 13 has
 abbrev pub counted : ℕ → ℕ → List ℕ → Answer
 counted number count buffer = record {
   number = number;
@@ -306,10 +318,6 @@ counted number count buffer = record {
   count = count;
   buffer = buffer;
 }
-
--- and with no count
-unfoldable pub only : ℕ → List ℕ → Answer
-only number buffer = counted number 0 buffer
 
 unfoldable pub tells_facts : VolumeFacts → Answer
 tells_facts f = record { number = 0; facts = f; place = 0; entry = no_entry; block = record { 0 = 0 }; count = 0; buffer = [] }

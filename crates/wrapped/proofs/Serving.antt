@@ -15,7 +15,7 @@ use Rattle.model.specs.Wrapped.{file_after, DoesWrapped}
 use Rattle.model.proofs.Container.{passes_sound, room}
 use Rattle.laws.proofs.Refusals.{refused}
 use Rattle.laws.proofs.Containers.{data_is, back_is, with_same, inside_length, renewed_with}
-use Rattle.laws.proofs.Wrapped.{outer_refusal, outer_answer, inner_answer, left_refused, left_is, left_same}
+use Rattle.laws.proofs.Wrapped.{bare, outer_refusal, outer_answer, inner_answer, left_refused, left_is, left_same}
 use Rattle.history.proofs.Run.{number_is}
 use Rattle.files.specs.Told.{told_number}
 use Rattle.wrapped.specs.Settled.{Settled}
@@ -43,7 +43,7 @@ module _ (file : List ℕ) (octets : Bytes file) where
         bytes = octets;
         fits = d.fits;
         serves = serves;
-        answers = inner.answers ∙ sym (inner_answer call file serves z);
+        answers = inner.answers ∙ sym (inner_answer call file (bare call serves _ _) z);
         leaves = sym (left_same call file (passes_sound file z) octets (sym inner.leaves));
       }
 
@@ -74,7 +74,7 @@ module _ (file : List ℕ) (octets : Bytes file) where
         bytes = octets;
         fits = d.fits;
         serves = serves;
-        answers = ap told_number s.same ∙ inner.answers ∙ sym (inner_answer call file serves z);
+        answers = ap told_number s.same ∙ inner.answers ∙ sym (inner_answer call file (bare call serves _ _) z);
         leaves = stored.stored ∙ settled n z inner counted;
       }
 

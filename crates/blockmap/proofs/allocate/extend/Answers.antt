@@ -24,7 +24,7 @@ returns-then-k-eq0 c =
     let l = a.image.now in
     let e = map_entry l in
     sym (ap (put_chain l) (none_new (chain_blocks e a.k a.s.0) (blocks_free e a.n) a.need c.if-need-eq0.true)
-    ∙ standing a.n l a.k a.s.0 (bytes) c.requires.2) in
+    ∙ standing a.n l a.k a.s.0 bytes c.requires.2) in
     let a = c.args in
     let e = map_entry a.image.now in
     record {
@@ -41,7 +41,7 @@ returns-then-need-eq0 c =
     let l = a.image.now in
     let e = map_entry l in
     sym (ap (put_chain l) (none_new (chain_blocks e a.k a.s.0) (blocks_free e a.n) a.need c.if-need-eq0.true)
-    ∙ standing a.n l a.k a.s.0 (bytes) c.requires.2) in
+    ∙ standing a.n l a.k a.s.0 bytes c.requires.2) in
     let a = c.args in
     let e = map_entry a.image.now in
     record {
@@ -73,7 +73,7 @@ returns-then-k-eq0-2 c =
     let x = c.next_free-first.result.0 in
     let q = no_chain e a.k a.s.0 (take a.need (blocks_free e a.n)) c.if-k-eq0-2.true in record {
       after = c.join_free.ensures ∙ ap (put_chain l) (ap (take a.need) (sym (free_from_lem e a.n x f)) ∙ sym q);
-      start = sym (ap first_or0 q ∙ (first_new e a.n x a.need f (some)).1);
+      start = sym (ap first_or0 q ∙ (first_new e a.n x a.need f some).1);
     }
 
 pub block_at-last-requires : goal.block_at-last-requires
@@ -87,7 +87,7 @@ store-requires c =
     let count : let a = c.args in a.k ≡ suc (a.k - 1) = omega arith in
     let chain : let a = c.args in runs (map_entry a.image.now) a.n (suc (a.k - 1)) a.s.0 ≡ true = subst (λ j. runs (map_entry c.args.image.now) c.args.n j c.args.s.0 ≡ true) count (c.requires.2 (omega arith)) in
     let b = c.block_at-last.ensures in
-    let h = b.high c.args.n (suc (c.args.k - 1)) (chain) (omega arith) in
+    let h = b.high c.args.n (suc (c.args.k - 1)) chain (omega arith) in
     (b.low, omega (arith, c.requires.0), c.requires.1, omega (arith, c.requires.0, c.next_free-first.ensures.high))
 
 pub join_free-requires-2 : goal.join_free-requires-2
@@ -101,8 +101,8 @@ join_free-requires-2 c =
     let f = c.next_free-first.ensures in
     let x = c.next_free-first.result.0 in
     let st = c.store in
-    let r = ext_requires a.n a.image.now (a.k - 1) a.s.0 x p.0 p.1 (chain) f
-    c.block_at-last.result.0 st.new.image a.need (stands) st.ensures p.3 in
+    let r = ext_requires a.n a.image.now (a.k - 1) a.s.0 x p.0 p.1 chain f
+    c.block_at-last.result.0 st.new.image a.need stands st.ensures p.3 in
     let big : 2048 ≤ length st.new.image = omega (arith, p.1, ap length st.ensures, length_set_entry a.image.now c.block_at-last.result.0 x) in
     (p.0, big, f.low, f.high, r.0, some, r.1)
 
@@ -121,7 +121,7 @@ returns c =
     let l = a.image.now in
     let st = c.store in record {
       after = c.join_free-2.ensures
-          ∙ ext_leaves a.n l (a.k - 1) a.s.0 x p.0 p.1 (chain) f
-          a.k c.block_at-last.result.0 st.new.image a.need (bytes) (some) (count) (stands) st.ensures;
+          ∙ ext_leaves a.n l (a.k - 1) a.s.0 x p.0 p.1 chain f
+          a.k c.block_at-last.result.0 st.new.image a.need bytes some count stands st.ensures;
       start = sym (first_old (map_entry l) a.k a.s.0 (take a.need (blocks_free (map_entry l) a.n)) (omega arith));
     }

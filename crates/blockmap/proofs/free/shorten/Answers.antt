@@ -16,7 +16,7 @@ unfolding Bytes
 returns-then-keep-k c =
     let bytes : Bytes c.args.image.now = λ i. omega (arith, c.type_inv.image i) in
     let a = c.args in
-    short_all a.n a.image.now a.k a.s.0 a.keep (bytes) c.requires.2 c.if-keep-k.true
+    short_all a.n a.image.now a.k a.s.0 a.keep bytes c.requires.2 c.if-keep-k.true
 
 pub returns-then-keep-eq0 : goal.returns-then-keep-eq0
 returns-then-keep-eq0 c =
@@ -55,8 +55,8 @@ free_chain-requires-2 c =
     let p = c.requires in (
       omega arith,
       omega (arith, p.1, ap length c.store.ensures, length_set_entry a.image.now c.block_at-last.result.0 1),
-      λ _. rest_runs a.n a.image.now a.k a.s.0 (a.keep - 1) p.0 p.1 (chain) (within) a.keep c.block_at-last.result.0
-          c.store.new.image c.load-next.result (count) (stands) c.store.ensures c.load-next.ensures.0,
+      λ _. rest_runs a.n a.image.now a.k a.s.0 (a.keep - 1) p.0 p.1 chain within a.keep c.block_at-last.result.0
+          c.store.new.image c.load-next.result count stands c.store.ensures c.load-next.ensures.0,
     )
 
 pub returns : goal.returns
@@ -69,6 +69,6 @@ returns c =
     let count : let a = c.args in a.keep ≡ suc (a.keep - 1) = omega arith in
     let a = c.args in
     c.free_chain-2.ensures
-    ∙ short_leaves a.n a.image.now a.k a.s.0 (a.keep - 1) c.requires.0 c.requires.1 (chain) (within) a.keep
-    c.block_at-last.result.0 c.store.new.image c.load-next.result (bytes) (count) (stands) c.store.ensures
+    ∙ short_leaves a.n a.image.now a.k a.s.0 (a.keep - 1) c.requires.0 c.requires.1 chain within a.keep
+    c.block_at-last.result.0 c.store.new.image c.load-next.result bytes count stands c.store.ensures
     c.load-next.ensures.0

@@ -11,7 +11,7 @@ returns-in-0 c =
     ∙ ap entries_in (c.three_bytes-bytes.ensures ∙ ap (three_bytes c.args.image.now) c.pair_byte.ensures) in
     let a = c.args in
     let e = first_entry a.image.now a.b.0 (omega arith) (omega arith) in
-    (ap (λ p. p.first) (pair) ∙ sym e, c.split-pair.ensures.1.0)
+    (ap (λ p. p.first) pair ∙ sym e, c.split-pair.ensures.1.0)
 
 pub returns-in_default : goal.returns-in_default
 returns-in_default c =
@@ -19,4 +19,4 @@ returns-in_default c =
     ∙ ap entries_in (c.three_bytes-bytes.ensures ∙ ap (three_bytes c.args.image.now) c.pair_byte.ensures) in
     let a = c.args in
     let e = second_entry a.image.now a.b.0 (omega arith) (omega arith) in
-    (ap (λ p. p.second) (pair) ∙ sym e, c.split-pair.ensures.1.1)
+    (ap (λ p. p.second) pair ∙ sym e, c.split-pair.ensures.1.1)

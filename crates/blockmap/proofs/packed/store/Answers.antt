@@ -13,8 +13,8 @@ returns-in-0 c =
     let bytes : Bytes c.args.image.now = λ i. (c.slice_known-1.given i).fits in
     let a = c.args in
     c.put_pair.ensures
-    ∙ put_first a.image.now a.b.0 a.value c.pair_byte-at.result c.split-pair.result (bytes) c.requires.0
-    c.pair_byte-at.ensures (pair) (omega arith)
+    ∙ put_first a.image.now a.b.0 a.value c.pair_byte-at.result c.split-pair.result bytes c.requires.0
+    c.pair_byte-at.ensures pair (omega arith)
 
 pub returns-in_default : goal.returns-in_default
 unfolding Bytes
@@ -23,5 +23,5 @@ returns-in_default c =
     let bytes : Bytes c.args.image.now = λ i. (c.slice_known-1.given i).fits in
     let a = c.args in
     c.put_pair-in_default.ensures
-    ∙ put_second a.image.now a.b.0 a.value c.pair_byte-at.result c.split-pair.result (bytes) c.requires.0
-    c.pair_byte-at.ensures (pair) (omega arith)
+    ∙ put_second a.image.now a.b.0 a.value c.pair_byte-at.result c.split-pair.result bytes c.requires.0
+    c.pair_byte-at.ensures pair (omega arith)

@@ -9,7 +9,7 @@ use Rattle.model.specs.Lists.{keep}
 use Rattle.model.specs.Map.{blocks_free}
 use Rattle.blockmap.specs.Decoded.{decoded_entry}
 use Rattle.blockmap.proofs.Ranges.{all_onward, count_hit, count_miss, count_none}
-use Rattle.blockmap.proofs.scan.free_count.Invariants.{free-at}
+use Rattle.blockmap.proofs.scan.free_count.Invariants.{free_at}
 use Rattle.blockmap.proofs.scan.free_count.Goals as goal
 use Rattle.blockmap.proofs.scan.free_count.Goals.{then-entries-b-eq0, else-entries-b-eq0}
 
@@ -17,14 +17,14 @@ pub loop-b-init : goal.loop-b-init
 unfolding blocks_free
 loop-b-init c =
     let a = c.args in
-    let all = ap (λ (bs : List ℕ). length (keep (free-at a.entries.now) bs)) (all_onward a.n) in
+    let all = ap (λ (bs : List ℕ). length (keep (free_at a.entries.now) bs)) (all_onward a.n) in
     (omega arith, omega arith, omega arith, omega arith)
 
 pub loop-b-preserved : goal.loop-b-preserved
 unfolding decoded_entry
 loop-b-preserved c =
     let a = c.args in
-    let p = free-at a.entries.now in
+    let p = free_at a.entries.now in
     let l = c.loop-b in
     let v = decoded_entry a.entries.now l.b in
     let before = l.invariant.3 in
@@ -42,5 +42,5 @@ returns c =
     let a = c.args in
     let l = c.loop-b in
     let before = l.invariant.3 in
-    let none = count_none (free-at a.entries.now) a.n l.b (omega arith) in
+    let none = count_none (free_at a.entries.now) a.n l.b (omega arith) in
     omega arith

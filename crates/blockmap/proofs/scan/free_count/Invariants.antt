@@ -12,12 +12,12 @@ use Rattle.blockmap.proofs.Ranges.{onward}
 use Rattle.blockmap.proofs.scan.free_count.Given as goal
 
 -- block b is free
-abbrev pub free-at : List ℕ → ℕ → Bool
-free-at entries b = eqb (decoded_entry entries b) 0
+abbrev pub free_at : List ℕ → ℕ → Bool
+free_at entries b = eqb (decoded_entry entries b) 0
 
 -- those from b on
 abbrev pub left : List ℕ → ℕ → ℕ → ℕ
-left entries n b = length (keep (free-at entries) (onward n b))
+left entries n b = length (keep (free_at entries) (onward n b))
 
 abbrev pub invariant-loop-b : goal.invariant-loop-b
 invariant-loop-b l = (2 ≤ l.b) × (l.b ≤ l.n + 2) × (l.free + 2 ≤ l.b) × (l.free + left l.entries l.n l.b ≡ length (blocks_free (decoded_entry l.entries) l.n))

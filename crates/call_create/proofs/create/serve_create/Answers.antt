@@ -19,7 +19,7 @@ use Rattle.call_create.proofs.create.serve_create.Goals as goal
 pub returns-then-is_locked : goal.returns-then-is_locked
 unfolding Fits
 returns-then-is_locked c =
-    let image-octets : Bytes c.args.image.now = octets _ c.type_inv.image in
+    let image_octets : Bytes c.args.image.now = octets _ c.type_inv.image in
     let fits : Fits (create c.args.name.now c.args.finder.now c.args.created c.args.changed) = (
       octets _ c.shared_slice_known-1.given,
       c.whole.ensures.1,
@@ -27,12 +27,12 @@ returns-then-is_locked c =
       omega (arith, c.ranges.created),
       omega (arith, c.ranges.changed),
     ) in
-    create_locked c.requires (image-octets) (fits) (sym c.is_locked.ensures ∙ c.if-is_locked.true)
+    create_locked c.requires image_octets fits (sym c.is_locked.ensures ∙ c.if-is_locked.true)
 
 pub returns-then-bad_name : goal.returns-then-bad_name
 unfolding Fits
 returns-then-bad_name c =
-    let image-octets : Bytes c.args.image.now = octets _ c.type_inv.image in
+    let image_octets : Bytes c.args.image.now = octets _ c.type_inv.image in
     let fits : Fits (create c.args.name.now c.args.finder.now c.args.created c.args.changed) = (
       octets _ c.type_inv.name,
       c.whole.ensures.1,
@@ -41,12 +41,12 @@ returns-then-bad_name c =
       omega (arith, c.ranges.changed),
     ) in
     let unlocked : is_locked c.args.f ≡ false = sym c.is_locked.ensures ∙ c.if-is_locked.false in
-    create_untitled c.requires (image-octets) (fits) (unlocked) (sym c.bad_name.ensures ∙ c.if-bad_name.true)
+    create_untitled c.requires image_octets fits unlocked (sym c.bad_name.ensures ∙ c.if-bad_name.true)
 
 pub returns-then-too_long : goal.returns-then-too_long
 unfolding Fits
 returns-then-too_long c =
-    let image-octets : Bytes c.args.image.now = octets _ c.type_inv.image in
+    let image_octets : Bytes c.args.image.now = octets _ c.type_inv.image in
     let fits : Fits (create c.args.name.now c.args.finder.now c.args.created c.args.changed) = (
       octets _ c.type_inv.name,
       c.whole.ensures.1,
@@ -56,12 +56,12 @@ returns-then-too_long c =
     ) in
     let unlocked : is_locked c.args.f ≡ false = sym c.is_locked.ensures ∙ c.if-is_locked.false in
     let good : bad_name c.args.name.now ≡ false = sym c.bad_name.ensures ∙ c.if-bad_name.false in
-    create_long c.requires (image-octets) (fits) (unlocked) (good) (sym c.too_long.ensures ∙ c.if-too_long.true)
+    create_long c.requires image_octets fits unlocked good (sym c.too_long.ensures ∙ c.if-too_long.true)
 
 pub returns-then-f-eq-LAST_NUMBER : goal.returns-then-f-eq-LAST_NUMBER
 unfolding Fits
 returns-then-f-eq-LAST_NUMBER c =
-    let image-octets : Bytes c.args.image.now = octets _ c.slice_known-1.given in
+    let image_octets : Bytes c.args.image.now = octets _ c.slice_known-1.given in
     let fits : Fits (create c.args.name.now c.args.finder.now c.args.created c.args.changed) = (
       octets _ c.type_inv.name,
       c.whole.ensures.1,
@@ -72,8 +72,8 @@ returns-then-f-eq-LAST_NUMBER c =
     let unlocked : is_locked c.args.f ≡ false = sym c.is_locked.ensures ∙ c.if-is_locked.false in
     let good : bad_name c.args.name.now ≡ false = sym c.bad_name.ensures ∙ c.if-bad_name.false in
     let short : Short c.args.name.now = record { good = good; short = sym c.too_long.ensures ∙ c.if-too_long.false } in
-    let new : Fresh c.args.image.now c.args.name.now = fresh (short) (names_none c.lookup.ensures c.in-Refused.is) in
-    create_last c.requires (image-octets) (fits) (unlocked) (new) c.if-f-eq-LAST_NUMBER.true
+    let new : Fresh c.args.image.now c.args.name.now = fresh short (names_none c.lookup.ensures c.in-Refused.is) in
+    create_last c.requires image_octets fits unlocked new c.if-f-eq-LAST_NUMBER.true
 
 pub first_entry-requires : goal.first_entry-requires
 first_entry-requires c = some_block c.requires
@@ -82,41 +82,41 @@ pub entry_size-requires : goal.entry_size-requires
 entry_size-requires c =
     let good : bad_name c.args.name.now ≡ false = sym c.bad_name.ensures ∙ c.if-bad_name.false in
     let short : Short c.args.name.now = record { good = good; short = sym c.too_long.ensures ∙ c.if-too_long.false } in
-    let new : Fresh c.args.image.now c.args.name.now = fresh (short) (names_none c.lookup.ensures c.in-Refused.is) in
-    (fresh_title (new)).short
+    let new : Fresh c.args.image.now c.args.name.now = fresh short (names_none c.lookup.ensures c.in-Refused.is) in
+    (fresh_title new).short
 
 pub find_room-requires : goal.find_room-requires
 unfolding padded
 find_room-requires c =
     let good : bad_name c.args.name.now ≡ false = sym c.bad_name.ensures ∙ c.if-bad_name.false in
     let short : Short c.args.name.now = record { good = good; short = sym c.too_long.ensures ∙ c.if-too_long.false } in
-    let new : Fresh c.args.image.now c.args.name.now = fresh (short) (names_none c.lookup.ensures c.in-Refused.is) in
+    let new : Fresh c.args.image.now c.args.name.now = fresh short (names_none c.lookup.ensures c.in-Refused.is) in
     record {
       passes = first_passes c.requires c.first_entry.ensures;
       at_value = c.first_entry.ensures.at;
-      size_bound = omega (arith, c.entry_size.ensures, (fresh_title (new)).short);
+      size_bound = omega (arith, c.entry_size.ensures, (fresh_title new).short);
     }
 
 pub add_file-requires : goal.add_file-requires
 add_file-requires c =
     let good : bad_name c.args.name.now ≡ false = sym c.bad_name.ensures ∙ c.if-bad_name.false in
     let short : Short c.args.name.now = record { good = good; short = sym c.too_long.ensures ∙ c.if-too_long.false } in
-    let new : Fresh c.args.image.now c.args.name.now = fresh (short) (names_none c.lookup.ensures c.in-Refused.is) in
-    let adds-there : let a = c.args in
-    Adds a.f a.image.now (length a.name.now) c.in-At-find_room.base c.in-At-find_room.end = let title = fresh_title (new) in
+    let new : Fresh c.args.image.now c.args.name.now = fresh short (names_none c.lookup.ensures c.in-Refused.is) in
+    let adds_there : let a = c.args in
+    Adds a.f a.image.now (length a.name.now) c.in-At-find_room.base c.in-At-find_room.end = let title = fresh_title new in
     adds c.args.f c.args.image.now c.first_entry.result c.first_entry.ensures (length c.args.name.now)
     c.entry_size.result c.entry_size.ensures _ _
     (room_at _ _ _ _ c.find_room.result c.find_room.ensures _ _ c.in-At-find_room.is) title.some title.short
     (omega (arith, c.struct_known-1.given, c.if-f-eq-LAST_NUMBER.false)) in
     record {
       readable = c.requires;
-      adds = adds-there;
+      adds = adds_there;
     }
 
 pub returns-in-At : goal.returns-in-At
 unfolding Fits
 returns-in-At c =
-    let image-octets : Bytes c.args.image.now = octets _ c.slice_known-1.given in
+    let image_octets : Bytes c.args.image.now = octets _ c.slice_known-1.given in
     let fits : Fits (create c.args.name.now c.args.finder.now c.args.created c.args.changed) = (
       octets _ c.type_inv.name,
       c.whole.ensures.1,
@@ -127,12 +127,12 @@ returns-in-At c =
     let unlocked : is_locked c.args.f ≡ false = sym c.is_locked.ensures ∙ c.if-is_locked.false in
     let good : bad_name c.args.name.now ≡ false = sym c.bad_name.ensures ∙ c.if-bad_name.false in
     let short : Short c.args.name.now = record { good = good; short = sym c.too_long.ensures ∙ c.if-too_long.false } in
-    create_exists c.requires (image-octets) (fits) (unlocked) (short) (names_file c.lookup.ensures c.in-At.is)
+    create_exists c.requires image_octets fits unlocked short (names_file c.lookup.ensures c.in-At.is)
 
 pub returns-in-Nothing : goal.returns-in-Nothing
 unfolding Fits
 returns-in-Nothing c =
-    let image-octets : Bytes c.args.image.now = octets _ c.slice_known-1.given in
+    let image_octets : Bytes c.args.image.now = octets _ c.slice_known-1.given in
     let fits : Fits (create c.args.name.now c.args.finder.now c.args.created c.args.changed) = (
       octets _ c.type_inv.name,
       c.whole.ensures.1,
@@ -143,15 +143,15 @@ returns-in-Nothing c =
     let unlocked : is_locked c.args.f ≡ false = sym c.is_locked.ensures ∙ c.if-is_locked.false in
     let good : bad_name c.args.name.now ≡ false = sym c.bad_name.ensures ∙ c.if-bad_name.false in
     let short : Short c.args.name.now = record { good = good; short = sym c.too_long.ensures ∙ c.if-too_long.false } in
-    let new : Fresh c.args.image.now c.args.name.now = fresh (short) (names_none c.lookup.ensures c.in-Refused.is) in
-    create_full c.requires (image-octets) (fits) (unlocked) (new) c.if-f-eq-LAST_NUMBER.false
+    let new : Fresh c.args.image.now c.args.name.now = fresh short (names_none c.lookup.ensures c.in-Refused.is) in
+    create_full c.requires image_octets fits unlocked new c.if-f-eq-LAST_NUMBER.false
     c.first_entry.ensures c.entry_size.ensures
     (room_none _ _ _ _ c.find_room.result c.find_room.ensures c.in-Nothing.is)
 
 pub returns-in-At-find_room : goal.returns-in-At-find_room
 unfolding Fits
 returns-in-At-find_room c =
-    let image-octets : Bytes c.args.image.now = octets _ c.slice_known-1.given in
+    let image_octets : Bytes c.args.image.now = octets _ c.slice_known-1.given in
     let fits : Fits (create c.args.name.now c.args.finder.now c.args.created c.args.changed) = (
       octets _ c.type_inv.name,
       c.whole.ensures.1,
@@ -162,12 +162,12 @@ returns-in-At-find_room c =
     let unlocked : is_locked c.args.f ≡ false = sym c.is_locked.ensures ∙ c.if-is_locked.false in
     let good : bad_name c.args.name.now ≡ false = sym c.bad_name.ensures ∙ c.if-bad_name.false in
     let short : Short c.args.name.now = record { good = good; short = sym c.too_long.ensures ∙ c.if-too_long.false } in
-    let new : Fresh c.args.image.now c.args.name.now = fresh (short) (names_none c.lookup.ensures c.in-Refused.is) in
-    let adds-there : let a = c.args in
-    Adds a.f a.image.now (length a.name.now) c.in-At-find_room.base c.in-At-find_room.end = let title = fresh_title (new) in
+    let new : Fresh c.args.image.now c.args.name.now = fresh short (names_none c.lookup.ensures c.in-Refused.is) in
+    let adds_there : let a = c.args in
+    Adds a.f a.image.now (length a.name.now) c.in-At-find_room.base c.in-At-find_room.end = let title = fresh_title new in
     adds c.args.f c.args.image.now c.first_entry.result c.first_entry.ensures (length c.args.name.now)
     c.entry_size.result c.entry_size.ensures _ _
     (room_at _ _ _ _ c.find_room.result c.find_room.ensures _ _ c.in-At-find_room.is) title.some title.short
     (omega (arith, c.struct_known-1.given, c.if-f-eq-LAST_NUMBER.false)) in
-    create_served c.requires (image-octets) (fits) (unlocked) (new) c.if-f-eq-LAST_NUMBER.false
-    (adds-there) c.add_file.ensures
+    create_served c.requires image_octets fits unlocked new c.if-f-eq-LAST_NUMBER.false
+    adds_there c.add_file.ensures

@@ -26,17 +26,17 @@ shorten_fork-requires c =
 
 pub returns-in-Refused : goal.returns-in-Refused
 returns-in-Refused c =
-    let image-bytes : Bytes c.args.image.now = octets _ c.slice_known-1.given in
+    let image_bytes : Bytes c.args.image.now = octets _ c.slice_known-1.given in
     let fits : Fits (cut c.args.name.now c.args.fork c.args.size c.args.changed) = cut_fits c.args.name.now c.args.fork c.args.size c.args.changed
     (octets _ c.type_inv.name) (omega arith) (omega arith) in
     let a = c.args in
-    refused c.requires image-bytes cut_changing fits (changed_no_fork a.fork a.size c.changeable_fork.ensures c.in-Refused.is)
+    refused c.requires image_bytes cut_changing fits (changed_no_fork a.fork a.size c.changeable_fork.ensures c.in-Refused.is)
 
 pub returns-in-At : goal.returns-in-At
 returns-in-At c =
-    let image-bytes : Bytes c.args.image.now = octets _ c.slice_known-1.given in
+    let image_bytes : Bytes c.args.image.now = octets _ c.slice_known-1.given in
     let fits : Fits (cut c.args.name.now c.args.fork c.args.size c.args.changed) = cut_fits c.args.name.now c.args.fork c.args.size c.args.changed
     (octets _ c.type_inv.name) (omega arith) (omega arith) in
     let fork : let a = c.args in
     ChangeableFork a.image.now a.name.now a.fork a.size c.in-At.e c.in-At.g = changed_fork_lem c.changeable_fork.ensures c.in-At.is in
-    cut_served c.requires image-bytes fork fits c.shorten_fork.ensures
+    cut_served c.requires image_bytes fork fits c.shorten_fork.ensures

@@ -16,14 +16,14 @@ take_file-requires c =
 
 pub returns-in-Refused : goal.returns-in-Refused
 returns-in-Refused c =
-    let image-bytes : Bytes c.args.image.now = octets _ c.slice_known-1.given in
+    let image_bytes : Bytes c.args.image.now = octets _ c.slice_known-1.given in
     let fits : Fits (delete c.args.name.now) = delete_fits c.args.name.now (octets _ c.type_inv.name) in
-    refused c.requires (image-bytes) delete_changing (fits) (changed_none c.changeable.ensures c.in-Refused.is)
+    refused c.requires image_bytes delete_changing fits (changed_none c.changeable.ensures c.in-Refused.is)
 
 pub returns-in-At : goal.returns-in-At
 returns-in-At c =
-    let image-bytes : Bytes c.args.image.now = octets _ c.slice_known-1.given in
+    let image_bytes : Bytes c.args.image.now = octets _ c.slice_known-1.given in
     let fits : Fits (delete c.args.name.now) = delete_fits c.args.name.now (octets _ c.type_inv.name) in
     let file : let a = c.args in
     Changeable a.image.now a.name.now c.in-At.field-0 c.in-At.e = changed_file c.changeable.ensures c.in-At.is in
-    delete_served c.requires (image-bytes) (fits) (file) c.take_file.ensures
+    delete_served c.requires image_bytes fits file c.take_file.ensures

@@ -14,9 +14,9 @@ use Rattle.call_quick_find.proofs.quick_find.serve_quick_find.Goals as goal
 
 pub returns-then-bad_name : goal.returns-then-bad_name
 returns-then-bad_name c =
-    let image-bytes : Bytes c.args.image.now = octets _ c.type_inv.image in
+    let image_bytes : Bytes c.args.image.now = octets _ c.type_inv.image in
     let letters : Bytes c.args.name.now = octets _ c.type_inv.name in
-    untitled c.requires (image-bytes) (letters) c.refused.ensures (sym c.bad_name.ensures ∙ c.if-bad_name.true)
+    untitled c.requires image_bytes letters c.refused.ensures (sym c.bad_name.ensures ∙ c.if-bad_name.true)
 
 pub first_entry-requires : goal.first_entry-requires
 first_entry-requires c = some_block c.requires
@@ -42,19 +42,19 @@ overflow_cast-result c =
 
 pub returns-in-At : goal.returns-in-At
 returns-in-At c =
-    let image-bytes : Bytes c.args.image.now = octets _ c.type_inv.image in
+    let image_bytes : Bytes c.args.image.now = octets _ c.type_inv.image in
     let letters : Bytes c.args.name.now = octets _ c.type_inv.name in
     let good : bad_name c.args.name.now ≡ false = sym c.bad_name.ensures ∙ c.if-bad_name.false in
     let found : let a = c.args in
     let bs = directory_blocks (facts_of a.image.now) a.image.now in
     FirstNamed a.image.now a.name.now (quick_listing bs) c.in-At.place c.in-At.e
     × (c.in-At.looked ≡ looked_at a.name.now bs) = rw (blocks_are c.requires c.first_entry.ensures) at (found_at _ _ _ c.quick_locate.ensures c.in-At.is) in
-    served c.requires (image-bytes) (letters) (good) (found) c.read_entry.ensures
+    served c.requires image_bytes letters good found c.read_entry.ensures
 
 pub returns-in-Nothing : goal.returns-in-Nothing
 returns-in-Nothing c =
-    let image-bytes : Bytes c.args.image.now = octets _ c.type_inv.image in
+    let image_bytes : Bytes c.args.image.now = octets _ c.type_inv.image in
     let letters : Bytes c.args.name.now = octets _ c.type_inv.name in
     let good : bad_name c.args.name.now ≡ false = sym c.bad_name.ensures ∙ c.if-bad_name.false in
     let none = rw (blocks_are c.requires c.first_entry.ensures) at (found_none _ _ _ c.quick_locate.ensures c.in-Nothing.is) in
-    missed c.requires (image-bytes) (letters) (good) c.refused-in-Nothing.ensures none
+    missed c.requires image_bytes letters good c.refused-in-Nothing.ensures none

@@ -23,11 +23,11 @@ block_count-requires c = large_block c.requires
 pub returns-then-block_count-place : goal.returns-then-block_count-place
 unfolding block_count
 returns-then-block_count-place c =
-    let image-bytes : Bytes c.args.image.now = octets _ c.type_inv.image in
+    let image_bytes : Bytes c.args.image.now = octets _ c.type_inv.image in
     let letters : Bytes c.args.name.now = octets _ c.type_inv.name in
     let file : let a = c.args in
     NamedEntry a.image.now a.name.now c.in-At.field-0 c.in-At.e = names_file c.lookup.ensures c.in-At.is in
-    block_beyond c.requires (image-bytes) (letters) (omega arith) (file) c.read_fork-g.ensures
+    block_beyond c.requires image_bytes letters (omega arith) file c.read_fork-g.ensures
     (omega (arith, c.block_count.ensures, c.if-block_count-place.true))
 
 pub overflow_cast-place : goal.overflow_cast-place
@@ -36,7 +36,7 @@ overflow_cast-place c =
     let file : let a = c.args in
     NamedEntry a.image.now a.name.now c.in-At.field-0 c.in-At.e = names_file c.lookup.ensures c.in-At.is in
     let below : c.args.place < c.read_fork-g.result.physical / A c.args.f = omega (arith, c.block_count.ensures, c.if-block_count-place.false) in
-    omega (arith, few_blocks c.requires (file) c.args.fork c.read_fork-g.ensures c.args.place (below))
+    omega (arith, few_blocks c.requires file c.args.fork c.read_fork-g.ensures c.args.place below)
 
 pub block_at-requires : goal.block_at-requires
 unfolding block_count
@@ -44,22 +44,22 @@ block_at-requires c =
     let file : let a = c.args in
     NamedEntry a.image.now a.name.now c.in-At.field-0 c.in-At.e = names_file c.lookup.ensures c.in-At.is in
     let below : c.args.place < c.read_fork-g.result.physical / A c.args.f = omega (arith, c.block_count.ensures, c.if-block_count-place.false) in (
-      has_place c.requires (file) c.args.fork c.read_fork-g.ensures c.args.place (below),
+      has_place c.requires file c.args.fork c.read_fork-g.ensures c.args.place below,
       long_image c.requires,
     )
 
 pub returns-in-Refused : goal.returns-in-Refused
 returns-in-Refused c =
-    let image-bytes : Bytes c.args.image.now = octets _ c.type_inv.image in
+    let image_bytes : Bytes c.args.image.now = octets _ c.type_inv.image in
     let letters : Bytes c.args.name.now = octets _ c.type_inv.name in
-    block_refused c.requires (image-bytes) (letters) (omega arith) (names_none c.lookup.ensures c.in-Refused.is)
+    block_refused c.requires image_bytes letters (omega arith) (names_none c.lookup.ensures c.in-Refused.is)
 
 pub returns-else-block_count-place : goal.returns-else-block_count-place
 unfolding block_count
 returns-else-block_count-place c =
-    let image-bytes : Bytes c.args.image.now = octets _ c.type_inv.image in
+    let image_bytes : Bytes c.args.image.now = octets _ c.type_inv.image in
     let letters : Bytes c.args.name.now = octets _ c.type_inv.name in
     let file : let a = c.args in
     NamedEntry a.image.now a.name.now c.in-At.field-0 c.in-At.e = names_file c.lookup.ensures c.in-At.is in
     let below : c.args.place < c.read_fork-g.result.physical / A c.args.f = omega (arith, c.block_count.ensures, c.if-block_count-place.false) in
-    block_served c.requires (image-bytes) (letters) (omega arith) (file) c.read_fork-g.ensures (below) c.block_at.ensures
+    block_served c.requires image_bytes letters (omega arith) file c.read_fork-g.ensures below c.block_at.ensures

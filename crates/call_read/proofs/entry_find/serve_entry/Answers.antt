@@ -22,13 +22,13 @@ read_entry-requires c =
 
 pub returns-in-At : goal.returns-in-At
 returns-in-At c =
-    let image-bytes : Bytes c.args.image.now = octets _ c.type_inv.image in
+    let image_bytes : Bytes c.args.image.now = octets _ c.type_inv.image in
     let there : let a = c.args in
     Placed a.image.now (directory a.image.now) a.place c.in-At.field-0 c.in-At.e = given_at c.requires c.first_entry.ensures c.entry_at.ensures c.in-At.is in
-    entry_served c.requires (image-bytes) (omega arith) c.read_entry.ensures (there)
+    entry_served c.requires image_bytes (omega arith) c.read_entry.ensures there
 
 pub returns-in-Nothing : goal.returns-in-Nothing
 returns-in-Nothing c =
-    let image-bytes : Bytes c.args.image.now = octets _ c.type_inv.image in
-    entry_refused c.requires (image-bytes) (omega arith) c.no_entry.ensures
+    let image_bytes : Bytes c.args.image.now = octets _ c.type_inv.image in
+    entry_refused c.requires image_bytes (omega arith) c.no_entry.ensures
     (given_none c.requires c.first_entry.ensures c.args.place c.entry_at.ensures c.in-Nothing.is)

@@ -14,14 +14,14 @@ read_entry-requires c =
 
 pub returns-in-Refused : goal.returns-in-Refused
 returns-in-Refused c =
-    let image-bytes : Bytes c.args.image.now = octets _ c.type_inv.image in
+    let image_bytes : Bytes c.args.image.now = octets _ c.type_inv.image in
     let letters : Bytes c.args.name.now = octets _ c.type_inv.name in
-    find_refused c.requires (image-bytes) (letters) c.no_entry.ensures (names_none c.lookup.ensures c.in-Refused.is)
+    find_refused c.requires image_bytes letters c.no_entry.ensures (names_none c.lookup.ensures c.in-Refused.is)
 
 pub returns-in-At : goal.returns-in-At
 returns-in-At c =
-    let image-bytes : Bytes c.args.image.now = octets _ c.type_inv.image in
+    let image_bytes : Bytes c.args.image.now = octets _ c.type_inv.image in
     let letters : Bytes c.args.name.now = octets _ c.type_inv.name in
     let file : let a = c.args in
     NamedEntry a.image.now a.name.now c.in-At.place c.in-At.e = names_file c.lookup.ensures c.in-At.is in
-    find_served c.requires (image-bytes) (letters) c.read_entry.ensures (file)
+    find_served c.requires image_bytes letters c.read_entry.ensures file

@@ -15,37 +15,37 @@ use Rattle.call_rename.proofs.rename.serve_rename.Goals as goal
 
 pub returns-then-is_locked : goal.returns-then-is_locked
 returns-then-is_locked c =
-    let image-octets : Bytes c.args.image.now = octets _ c.type_inv.image in
+    let image_octets : Bytes c.args.image.now = octets _ c.type_inv.image in
     let fits : Fits (rename c.args.name.now c.args.new.now c.args.changed) = rename_fits c.args.name.now c.args.new.now c.args.changed
     (octets _ c.type_inv.name) (octets _ c.type_inv.new) (omega (arith, c.ranges.changed)) in
-    rename_locked c.requires (image-octets) (fits) (sym c.is_locked.ensures ∙ c.if-is_locked.true)
+    rename_locked c.requires image_octets fits (sym c.is_locked.ensures ∙ c.if-is_locked.true)
 
 pub returns-then-bad_name : goal.returns-then-bad_name
 returns-then-bad_name c =
-    let image-octets : Bytes c.args.image.now = octets _ c.type_inv.image in
+    let image_octets : Bytes c.args.image.now = octets _ c.type_inv.image in
     let fits : Fits (rename c.args.name.now c.args.new.now c.args.changed) = rename_fits c.args.name.now c.args.new.now c.args.changed
     (octets _ c.type_inv.name) (octets _ c.type_inv.new) (omega (arith, c.ranges.changed)) in
     let unlocked : is_locked c.args.f ≡ false = sym c.is_locked.ensures ∙ c.if-is_locked.false in
-    rename_untitled c.requires (image-octets) (fits) (unlocked) (sym c.bad_name.ensures ∙ c.if-bad_name.true)
+    rename_untitled c.requires image_octets fits unlocked (sym c.bad_name.ensures ∙ c.if-bad_name.true)
 
 pub returns-then-bad_name-2 : goal.returns-then-bad_name-2
 returns-then-bad_name-2 c =
-    let image-octets : Bytes c.args.image.now = octets _ c.type_inv.image in
+    let image_octets : Bytes c.args.image.now = octets _ c.type_inv.image in
     let fits : Fits (rename c.args.name.now c.args.new.now c.args.changed) = rename_fits c.args.name.now c.args.new.now c.args.changed
     (octets _ c.type_inv.name) (octets _ c.type_inv.new) (omega (arith, c.ranges.changed)) in
     let unlocked : is_locked c.args.f ≡ false = sym c.is_locked.ensures ∙ c.if-is_locked.false in
     let old : bad_name c.args.name.now ≡ false = sym c.bad_name.ensures ∙ c.if-bad_name.false in
-    rename_unnamed c.requires (image-octets) (fits) (unlocked) (old) (sym c.bad_name-2.ensures ∙ c.if-bad_name-2.true)
+    rename_unnamed c.requires image_octets fits unlocked old (sym c.bad_name-2.ensures ∙ c.if-bad_name-2.true)
 
 pub returns-then-too_long : goal.returns-then-too_long
 returns-then-too_long c =
-    let image-octets : Bytes c.args.image.now = octets _ c.type_inv.image in
+    let image_octets : Bytes c.args.image.now = octets _ c.type_inv.image in
     let fits : Fits (rename c.args.name.now c.args.new.now c.args.changed) = rename_fits c.args.name.now c.args.new.now c.args.changed
     (octets _ c.type_inv.name) (octets _ c.type_inv.new) (omega (arith, c.ranges.changed)) in
     let unlocked : is_locked c.args.f ≡ false = sym c.is_locked.ensures ∙ c.if-is_locked.false in
     let old : bad_name c.args.name.now ≡ false = sym c.bad_name.ensures ∙ c.if-bad_name.false in
     let good : bad_name c.args.new.now ≡ false = sym c.bad_name-2.ensures ∙ c.if-bad_name-2.false in
-    rename_long c.requires (image-octets) (fits) (unlocked) (old) (good) (sym c.too_long.ensures ∙ c.if-too_long.true)
+    rename_long c.requires image_octets fits unlocked old good (sym c.too_long.ensures ∙ c.if-too_long.true)
 
 pub names_another-requires : goal.names_another-requires
 names_another-requires c =
@@ -65,7 +65,7 @@ names_another-requires c =
 
 pub returns-then-names_another : goal.returns-then-names_another
 returns-then-names_another c =
-    let image-octets : Bytes c.args.image.now = octets _ c.slice_known-1.given in
+    let image_octets : Bytes c.args.image.now = octets _ c.slice_known-1.given in
     let fits : Fits (rename c.args.name.now c.args.new.now c.args.changed) = rename_fits c.args.name.now c.args.new.now c.args.changed
     (octets _ c.type_inv.name) (octets _ c.type_inv.new) (omega (arith, c.ranges.changed)) in
     let unlocked : is_locked c.args.f ≡ false = sym c.is_locked.ensures ∙ c.if-is_locked.false in
@@ -79,7 +79,7 @@ returns-then-names_another c =
     } in
     let file : let a = c.args in
     Changeable a.image.now a.name.now c.in-At.place c.in-At.e = changed_file c.changeable.ensures c.in-At.is in
-    rename_another c.requires (image-octets) (passed) (fits) (file) (sym c.if-names_another.true ∙ c.names_another.ensures _ _ (file).found)
+    rename_another c.requires image_octets passed fits file (sym c.if-names_another.true ∙ c.names_another.ensures _ _ (file).found)
 
 pub rename_file-requires : goal.rename_file-requires
 rename_file-requires c =
@@ -102,7 +102,7 @@ rename_file-requires c =
 
 pub returns-in-Refused : goal.returns-in-Refused
 returns-in-Refused c =
-    let image-octets : Bytes c.args.image.now = octets _ c.slice_known-1.given in
+    let image_octets : Bytes c.args.image.now = octets _ c.slice_known-1.given in
     let fits : Fits (rename c.args.name.now c.args.new.now c.args.changed) = rename_fits c.args.name.now c.args.new.now c.args.changed
     (octets _ c.type_inv.name) (octets _ c.type_inv.new) (omega (arith, c.ranges.changed)) in
     let unlocked : is_locked c.args.f ≡ false = sym c.is_locked.ensures ∙ c.if-is_locked.false in
@@ -114,11 +114,11 @@ returns-in-Refused c =
       good = good;
       short = sym c.too_long.ensures ∙ c.if-too_long.false;
     } in
-    rename_barred c.requires (image-octets) (passed) (fits) (changed_none c.changeable.ensures c.in-Refused.is)
+    rename_barred c.requires image_octets passed fits (changed_none c.changeable.ensures c.in-Refused.is)
 
 pub returns-else-names_another : goal.returns-else-names_another
 returns-else-names_another c =
-    let image-octets : Bytes c.args.image.now = octets _ c.slice_known-1.given in
+    let image_octets : Bytes c.args.image.now = octets _ c.slice_known-1.given in
     let fits : Fits (rename c.args.name.now c.args.new.now c.args.changed) = rename_fits c.args.name.now c.args.new.now c.args.changed
     (octets _ c.type_inv.name) (octets _ c.type_inv.new) (omega (arith, c.ranges.changed)) in
     let unlocked : is_locked c.args.f ≡ false = sym c.is_locked.ensures ∙ c.if-is_locked.false in
@@ -133,5 +133,5 @@ returns-else-names_another c =
     let file : let a = c.args in
     Changeable a.image.now a.name.now c.in-At.place c.in-At.e = changed_file c.changeable.ensures c.in-At.is in
     let held : let a = c.args in FileAt a.f a.image.now c.in-At.e = record { readable = c.requires; name = c.args.name.now; place = _; found = (file).found } in
-    rename_told c.requires (image-octets) (passed) (fits) (file) (sym c.if-names_another.false ∙ c.names_another.ensures _ _ (file).found)
-    (c.rename_file.ensures (held))
+    rename_told c.requires image_octets passed fits file (sym c.if-names_another.false ∙ c.names_another.ensures _ _ (file).found)
+    (c.rename_file.ensures held)

@@ -24,13 +24,13 @@ needed_blocks-needed-requires c =
 
 pub returns-then-needed-ne0 : goal.returns-then-needed-ne0
 returns-then-needed-ne0 c =
-    let image-bytes : Bytes c.args.image.now = octets _ c.slice_known-1.given in
+    let image_bytes : Bytes c.args.image.now = octets _ c.slice_known-1.given in
     let fits : Fits (write c.args.name.now c.args.fork c.args.offset c.args.bytes.now c.args.changed) = write_fits c.args.name.now c.args.fork c.args.offset c.args.bytes.now c.args.changed
     (octets _ c.type_inv.name) (omega (arith, c.ranges.offset))
     (octets _ c.type_inv.bytes) (omega (arith, c.ranges.changed)) in
     let fork : let a = c.args in
     ChangeableFork a.image.now a.name.now a.fork a.offset c.in-At.e c.in-At.g = changed_fork_lem c.changeable_fork.ensures c.in-At.is in
-    write_full c.requires (fork) (image-bytes) (fits) c.needed_blocks-needed.result c.needed_blocks-needed.ensures c.if-needed-ne0.true
+    write_full c.requires fork image_bytes fits c.needed_blocks-needed.result c.needed_blocks-needed.ensures c.if-needed-ne0.true
 
 pub taken_blocks-taken-requires : goal.taken_blocks-taken-requires
 taken_blocks-taken-requires c = large_block c.requires
@@ -53,20 +53,20 @@ grow_fork-requires c =
 
 pub returns-in-Refused : goal.returns-in-Refused
 returns-in-Refused c =
-    let image-bytes : Bytes c.args.image.now = octets _ c.slice_known-1.given in
+    let image_bytes : Bytes c.args.image.now = octets _ c.slice_known-1.given in
     let fits : Fits (write c.args.name.now c.args.fork c.args.offset c.args.bytes.now c.args.changed) = write_fits c.args.name.now c.args.fork c.args.offset c.args.bytes.now c.args.changed
     (octets _ c.type_inv.name) (omega (arith, c.ranges.offset))
     (octets _ c.type_inv.bytes) (omega (arith, c.ranges.changed)) in
     let a = c.args in
-    refused c.requires (image-bytes) write_changing (fits)
+    refused c.requires image_bytes write_changing fits
     (changed_no_fork a.fork a.offset c.changeable_fork.ensures c.in-Refused.is)
 
 pub returns-else-needed-ne0 : goal.returns-else-needed-ne0
 returns-else-needed-ne0 c =
-    let image-bytes : Bytes c.args.image.now = octets _ c.slice_known-1.given in
+    let image_bytes : Bytes c.args.image.now = octets _ c.slice_known-1.given in
     let fits : Fits (write c.args.name.now c.args.fork c.args.offset c.args.bytes.now c.args.changed) = write_fits c.args.name.now c.args.fork c.args.offset c.args.bytes.now c.args.changed
     (octets _ c.type_inv.name) (omega (arith, c.ranges.offset))
     (octets _ c.type_inv.bytes) (omega (arith, c.ranges.changed)) in
     let fork : let a = c.args in
     ChangeableFork a.image.now a.name.now a.fork a.offset c.in-At.e c.in-At.g = changed_fork_lem c.changeable_fork.ensures c.in-At.is in
-    write_served c.requires (fork) (image-bytes) (fits) c.needed_blocks-needed.result c.needed_blocks-needed.ensures c.if-needed-ne0.false c.grow_fork.ensures
+    write_served c.requires fork image_bytes fits c.needed_blocks-needed.result c.needed_blocks-needed.ensures c.if-needed-ne0.false c.grow_fork.ensures

@@ -12,14 +12,14 @@ never : (m n : ℕ) → m < n → n ≤ m → ⊥
 never m n h k = omega arith
 
 -- so they and the place behind them fit
-small-fits : (p : ℕ) → p ≤ 20971520 → Fits w32 p
-small-fits p h = omega arith
+small_fits : (p : ℕ) → p ≤ 20971520 → Fits w32 p
+small_fits p h = omega arith
 
 end_fits : (s p : ℕ) → s < 65536 → p ≤ 20971520 → Fits w32 (s + p / 512)
 end_fits s p k h = omega arith
 
-end-wide : (s p : ℕ) → s < 65536 → p ≤ 20971520 → Fits w64 (s + p / 512)
-end-wide s p k h = omega arith
+end_wide : (s p : ℕ) → s < 65536 → p ≤ 20971520 → Fits w64 (s + p / 512)
+end_wide s p k h = omega arith
 
 pub returns-then-a-ne0 : goal.returns-then-a-ne0
 returns-then-a-ne0 c = layout_fires _ _ (λ s. c.if-a-ne0.true s.multiple)
@@ -51,17 +51,17 @@ returns-then-s-start c = layout_fires _ _ (λ s. never _ _ c.if-s-start.true s.d
 pub overflow_mul-end : goal.overflow_mul-end
 overflow_mul-end c =
     let area : let f = c.args.f in N f * A f ≤ 20971520 = area_fits _ _ c.if-n-gt-MOST_ALLOCATION_BLOCKS.false c.if-a-gt-MOST_BLOCK_SIZE.false in
-    small-fits _ (area)
+    small_fits _ area
 
 pub overflow_add-end : goal.overflow_add-end
 overflow_add-end c =
     let area : let f = c.args.f in N f * A f ≤ 20971520 = area_fits _ _ c.if-n-gt-MOST_ALLOCATION_BLOCKS.false c.if-a-gt-MOST_BLOCK_SIZE.false in
-    end_fits _ _ c.requires.allocation (area)
+    end_fits _ _ c.requires.allocation area
 
 pub overflow_cast-end-2 : goal.overflow_cast-end-2
 overflow_cast-end-2 c =
     let area : let f = c.args.f in N f * A f ≤ 20971520 = area_fits _ _ c.if-n-gt-MOST_ALLOCATION_BLOCKS.false c.if-a-gt-MOST_BLOCK_SIZE.false in
-    end-wide _ _ c.requires.allocation (area)
+    end_wide _ _ c.requires.allocation area
 
 pub returns-then-blocks-end : goal.returns-then-blocks-end
 returns-then-blocks-end c = layout_fires _ _ (λ s. never _ _ c.if-blocks-end.true s.backup)

@@ -10,8 +10,8 @@ returns-then-file-lt-UNTAGGED_SIZE c = header_fires _ (λ h. omega (arith, c.if-
 pub returns-then-bad_size : goal.returns-then-bad_size
 returns-then-bad_size c =
     let file : List ℕ = c.args.file.now in
-    let sized : c.bad_size.result ≡ bad_size (length (file)) (tag_size (file)) = c.bad_size.ensures ∙ ap (bad_size (length (file))) c.be32_at-tag.ensures in
-    size_fires (file) (sym (sized) ∙ c.if-bad_size.true)
+    let sized : c.bad_size.result ≡ bad_size (length file) (tag_size file) = c.bad_size.ensures ∙ ap (bad_size (length file)) c.be32_at-tag.ensures in
+    size_fires file (sym sized ∙ c.if-bad_size.true)
 
 pub returns-then-name-gt-MOST_NAME : goal.returns-then-name-gt-MOST_NAME
 returns-then-name-gt-MOST_NAME c = header_fires _ (λ h. omega (arith, c.if-name-gt-MOST_NAME.true, h.titled))
@@ -26,6 +26,6 @@ returns-then-encoding-ne0 c = header_fires _ (λ h. c.if-encoding-ne0.true h.enc
 pub returns : goal.returns
 returns c =
     let file : List ℕ = c.args.file.now in
-    let sized : c.bad_size.result ≡ bad_size (length (file)) (tag_size (file)) = c.bad_size.ensures ∙ ap (bad_size (length (file))) c.be32_at-tag.ensures in
+    let sized : c.bad_size.result ≡ bad_size (length file) (tag_size file) = c.bad_size.ensures ∙ ap (bad_size (length file)) c.be32_at-tag.ensures in
     ap (λ m. not (eqb m 256)) c.be16_at-mark.ensures
-    ∙ mark_left (file) (sym (sized) ∙ c.if-bad_size.false) c.if-name-gt-MOST_NAME.false (sym c.be32_at-size.ensures ∙ c.if-size-ne-DATA_SIZE.false) c.if-encoding-ne0.false
+    ∙ mark_left file (sym sized ∙ c.if-bad_size.false) c.if-name-gt-MOST_NAME.false (sym c.be32_at-size.ensures ∙ c.if-size-ne-DATA_SIZE.false) c.if-encoding-ne0.false

@@ -15,4 +15,4 @@ returns c =
     let sum = checksum image in
     filled a.buffer.now (header_for a.name.now a.format sum) image 84
     (header_length a.name.now a.format sum c.requires.2) (omega (arith, c.requires.0, c.requires.1)) _ _
-    (c.copy_part.ensures ∙ ap (λ (l : List ℕ). paste a.buffer.now 0 l 84) (made)) c.copy_part-2.ensures
+    (c.copy_part.ensures ∙ ap (λ (l : List ℕ). paste a.buffer.now 0 l 84) made) c.copy_part-2.ensures

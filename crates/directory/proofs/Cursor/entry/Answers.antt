@@ -43,5 +43,5 @@ pub returns : goal.returns
 returns c =
     let title : ℕ = let a = c.args in byte a.image.now (a.self.base + a.self.at + 50) in
     let small : title < 256 = let a = c.args in (c.type_inv.image (a.self.base + a.self.at + 50)).fits in
-    moves c.args.image.now c.args.self c.requires.cursor_fits c.requires.at_value (omega arith) (title) _ refl (omega arith)
+    moves c.args.image.now c.args.self c.requires.cursor_fits c.requires.at_value (omega arith) title _ refl (omega arith)
     (omega (arith, small)) (omega arith) (omega (arith, c.entry_size.ensures)) (omega arith)

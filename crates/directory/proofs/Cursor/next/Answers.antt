@@ -18,7 +18,7 @@ pub returns-then-c-eq0 : goal.returns-then-c-eq0
 returns-then-c-eq0 c =
     let ended : ends_at (block_of c.args.image.now c.loop-c.c) c.loop-c.c.at ≡ true = sym c.ends.ensures ∙ c.loop-c-test.true in
     let l = c.loop-c in
-    l.invariant.1 ∙ last_block c.args.image.now l.c l.invariant.0 (ended) c.if-c-eq0.true
+    l.invariant.1 ∙ last_block c.args.image.now l.c l.invariant.0 ended c.if-c-eq0.true
 
 pub loop-c-preserved : goal.loop-c-preserved
 loop-c-preserved c =
@@ -26,7 +26,7 @@ loop-c-preserved c =
     let l = c.loop-c in
     let image = c.args.image.now in (
       record { blocks = omega arith; place = omega arith },
-      l.invariant.1 ∙ next_block image l.c l.invariant.0 (ended) c.if-c-eq0.false,
+      l.invariant.1 ∙ next_block image l.c l.invariant.0 ended c.if-c-eq0.false,
       omega arith,
       λ base blocks k. comes_block image l.c base blocks c.if-c-eq0.false (l.invariant.3 base blocks k),
     )

@@ -11,4 +11,4 @@ bounds-s-at-2 c = rw length-set (omega arith)
 pub returns : goal.returns
 returns c =
     let p1 : c.args.at + 1 ≡ suc c.args.at = omega arith in
-    rw (p1)
+    rw p1

@@ -21,16 +21,16 @@ returns-then-file_locked c =
     let unlocked : is_locked c.args.f ≡ false = sym c.is_locked.ensures ∙ c.if-is_locked.false in
     let file : let a = c.args in
     NamedEntry a.image.now a.name.now c.in-At.place c.in-At.e = names_file c.lookup.ensures c.in-At.is in
-    barred_15 c.requires _ (unlocked) _ _ (file) (sym c.file_locked.ensures ∙ c.if-file_locked.true)
+    barred_15 c.requires _ unlocked _ _ file (sym c.file_locked.ensures ∙ c.if-file_locked.true)
 
 pub returns-in-Refused : goal.returns-in-Refused
 returns-in-Refused c =
     let unlocked : is_locked c.args.f ≡ false = sym c.is_locked.ensures ∙ c.if-is_locked.false in
-    barred_name c.requires _ (unlocked) _ (names_none c.lookup.ensures c.in-Refused.is)
+    barred_name c.requires _ unlocked _ (names_none c.lookup.ensures c.in-Refused.is)
 
 pub returns-else-file_locked : goal.returns-else-file_locked
 returns-else-file_locked c =
     let unlocked : is_locked c.args.f ≡ false = sym c.is_locked.ensures ∙ c.if-is_locked.false in
     let file : let a = c.args in
     NamedEntry a.image.now a.name.now c.in-At.place c.in-At.e = names_file c.lookup.ensures c.in-At.is in
-    unbarred c.requires _ (unlocked) _ _ (file) (sym c.file_locked.ensures ∙ c.if-file_locked.false)
+    unbarred c.requires _ unlocked _ _ file (sym c.file_locked.ensures ∙ c.if-file_locked.false)

@@ -13,7 +13,7 @@ pub returns-then-g-offset : goal.returns-then-g-offset
 returns-then-g-offset c =
     let file : let a = c.args in
     Changeable a.image.now a.name.now c.in-At.field-0 c.in-At.e = changed_file c.changeable.ensures c.in-At.is in
-    barred_16 c.requires (file) c.args.fork c.args.offset c.read_fork-g.ensures c.if-g-offset.true
+    barred_16 c.requires file c.args.fork c.args.offset c.read_fork-g.ensures c.if-g-offset.true
 
 pub returns-in-Refused : goal.returns-in-Refused
 returns-in-Refused c =

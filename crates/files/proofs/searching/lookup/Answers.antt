@@ -19,9 +19,9 @@ locate-requires c = first_passes c.requires c.first_entry.ensures
 pub returns-in-At : goal.returns-in-At
 returns-in-At c =
     let good : bad_name c.args.name.now ≡ false = sym c.bad_name.ensures ∙ c.if-bad_name.false in
-    found_at c.requires c.first_entry.ensures c.locate.ensures.finds c.locate.ensures.located (good) c.in-At.is
+    found_at c.requires c.first_entry.ensures c.locate.ensures.finds c.locate.ensures.located good c.in-At.is
 
 pub returns-in-Nothing : goal.returns-in-Nothing
 returns-in-Nothing c =
     let good : bad_name c.args.name.now ≡ false = sym c.bad_name.ensures ∙ c.if-bad_name.false in
-    found_none c.requires c.first_entry.ensures c.locate.ensures.finds c.locate.ensures.located (good) c.in-Nothing.is
+    found_none c.requires c.first_entry.ensures c.locate.ensures.finds c.locate.ensures.located good c.in-Nothing.is

@@ -14,26 +14,26 @@ use Rattle.forks.proofs.content.copy_blocks.Goals as goal
 
 pub overflow_cast-offset : goal.overflow_cast-offset
 overflow_cast-offset c =
-    let before-end : c.args.offset < c.args.g.logical = before_all _ _ _ c.requires.1 c.requires.2 in
+    let before_end : c.args.offset < c.args.g.logical = before_all _ _ _ c.requires.1 c.requires.2 in
     let a = c.args in
-    place_fits _ (place_small a.image.now a.start a.size a.g c.requires.0 a.offset before-end)
+    place_fits _ (place_small a.image.now a.start a.size a.g c.requires.0 a.offset before_end)
 
 pub block_at-b-requires : goal.block_at-b-requires
 block_at-b-requires c =
-    let before-end : c.args.offset < c.args.g.logical = before_all _ _ _ c.requires.1 c.requires.2 in
-    let image-long : 2048 ≤ length c.args.image.now = long _ _ _ c.requires.0.area.low c.requires.0.area.room in
+    let before_end : c.args.offset < c.args.g.logical = before_all _ _ _ c.requires.1 c.requires.2 in
+    let image_long : 2048 ≤ length c.args.image.now = long _ _ _ c.requires.0.area.low c.requires.0.area.room in
     let a = c.args in
-    (has_place a.image.now a.start a.size a.g c.requires.0 a.offset before-end, image-long)
+    (has_place a.image.now a.start a.size a.g c.requires.0 a.offset before_end, image_long)
 
 pub byte_in-from-requires : goal.byte_in-from-requires
 byte_in-from-requires c =
     let due : List ℕ = bytes_from c.args.image.now c.args.start c.args.size c.args.g c.args.offset in
     let enough : c.args.count ≤ length due = let a = c.args in
     fork_enough a.image.now a.start a.size a.g c.requires.0 a.offset a.count c.requires.2 in
-    let before-end : c.args.offset < c.args.g.logical = before_all _ _ _ c.requires.1 c.requires.2 in
+    let before_end : c.args.offset < c.args.g.logical = before_all _ _ _ c.requires.1 c.requires.2 in
     let begins : let a = c.args in
     Onward a.image.now a.start a.size due c.block_at-b.result.0 (a.offset % a.size) = let a = c.args in
-    fork_onward a.image.now a.start a.size a.g c.requires.0 a.offset before-end c.block_at-b.result.0
+    fork_onward a.image.now a.start a.size a.g c.requires.0 a.offset before_end c.block_at-b.result.0
     c.block_at-b.ensures in
     let goes_on : let a = c.args in
     Onward a.image.now a.start a.size (drop c.loop-done.done due) c.loop-done.b.0 c.loop-done.within = c.loop-done.invariant.onward due begins enough in
@@ -47,10 +47,10 @@ copy_part-requires c =
     let due : List ℕ = bytes_from c.args.image.now c.args.start c.args.size c.args.g c.args.offset in
     let enough : c.args.count ≤ length due = let a = c.args in
     fork_enough a.image.now a.start a.size a.g c.requires.0 a.offset a.count c.requires.2 in
-    let before-end : c.args.offset < c.args.g.logical = before_all _ _ _ c.requires.1 c.requires.2 in
+    let before_end : c.args.offset < c.args.g.logical = before_all _ _ _ c.requires.1 c.requires.2 in
     let begins : let a = c.args in
     Onward a.image.now a.start a.size due c.block_at-b.result.0 (a.offset % a.size) = let a = c.args in
-    fork_onward a.image.now a.start a.size a.g c.requires.0 a.offset before-end c.block_at-b.result.0
+    fork_onward a.image.now a.start a.size a.g c.requires.0 a.offset before_end c.block_at-b.result.0
     c.block_at-b.ensures in
     let goes_on : let a = c.args in
     Onward a.image.now a.start a.size (drop c.loop-done.done due) c.loop-done.b.0 c.loop-done.within = c.loop-done.invariant.onward due begins enough in
@@ -66,10 +66,10 @@ returns-then-count-done c =
     let due : List ℕ = bytes_from c.args.image.now c.args.start c.args.size c.args.g c.args.offset in
     let enough : c.args.count ≤ length due = let a = c.args in
     fork_enough a.image.now a.start a.size a.g c.requires.0 a.offset a.count c.requires.2 in
-    let before-end : c.args.offset < c.args.g.logical = before_all _ _ _ c.requires.1 c.requires.2 in
+    let before_end : c.args.offset < c.args.g.logical = before_all _ _ _ c.requires.1 c.requires.2 in
     let begins : let a = c.args in
     Onward a.image.now a.start a.size due c.block_at-b.result.0 (a.offset % a.size) = let a = c.args in
-    fork_onward a.image.now a.start a.size a.g c.requires.0 a.offset before-end c.block_at-b.result.0
+    fork_onward a.image.now a.start a.size a.g c.requires.0 a.offset before_end c.block_at-b.result.0
     c.block_at-b.ensures in
     let turn : let a = c.args in
     Turn c.smaller-n.result a.size c.loop-done.within a.count c.loop-done.done = let m = c.loop-done.invariant in a_turn _ _ _ _ _ c.smaller-n.ensures m.here m.more in
@@ -89,19 +89,19 @@ returns-then-count-done c =
 pub load-requires : goal.load-requires
 load-requires c =
     let due : List ℕ = bytes_from c.args.image.now c.args.start c.args.size c.args.g c.args.offset in
-    let image-long : 2048 ≤ length c.args.image.now = long _ _ _ c.requires.0.area.low c.requires.0.area.room in
+    let image_long : 2048 ≤ length c.args.image.now = long _ _ _ c.requires.0.area.low c.requires.0.area.room in
     let enough : c.args.count ≤ length due = let a = c.args in
     fork_enough a.image.now a.start a.size a.g c.requires.0 a.offset a.count c.requires.2 in
-    let before-end : c.args.offset < c.args.g.logical = before_all _ _ _ c.requires.1 c.requires.2 in
+    let before_end : c.args.offset < c.args.g.logical = before_all _ _ _ c.requires.1 c.requires.2 in
     let begins : let a = c.args in
     Onward a.image.now a.start a.size due c.block_at-b.result.0 (a.offset % a.size) = let a = c.args in
-    fork_onward a.image.now a.start a.size a.g c.requires.0 a.offset before-end c.block_at-b.result.0
+    fork_onward a.image.now a.start a.size a.g c.requires.0 a.offset before_end c.block_at-b.result.0
     c.block_at-b.ensures in
     let goes_on : let a = c.args in
     Onward a.image.now a.start a.size (drop c.loop-done.done due) c.loop-done.b.0 c.loop-done.within = c.loop-done.invariant.onward due begins enough in
     let block : (2 ≤ c.loop-done.b.0) × (c.loop-done.b.0 ≤ 641) = let a = c.args in
     onward_block a.image.now a.start a.size (drop c.loop-done.done due) c.loop-done.b.0 c.loop-done.within goes_on in
-    (block.0, block.1, image-long)
+    (block.0, block.1, image_long)
 
 pub loop-done-preserved : goal.loop-done-preserved
 loop-done-preserved c =

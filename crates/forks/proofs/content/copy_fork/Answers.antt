@@ -8,10 +8,10 @@ use Rattle.forks.proofs.content.copy_fork.Goals as goal
 pub returns-then-count-eq0 : goal.returns-then-count-eq0
 unfolding read_count
 returns-then-count-eq0 c =
-    let count-is : let a = c.args in
+    let count_is : let a = c.args in
     c.smaller-count.result ≡ read_count (length a.buffer.now) a.g.logical a.offset = c.smaller-count.ensures in
     let a = c.args in
-    let none = sym c.if-count-eq0.true ∙ count-is in
+    let none = sym c.if-count-eq0.true ∙ count_is in
     record {
       count = none;
       bytes = copied_fork a.image.now a.start a.size a.g c.requires.0 a.offset 0 a.buffer.now none;
@@ -20,11 +20,11 @@ returns-then-count-eq0 c =
 pub returns : goal.returns
 unfolding read_count
 returns c =
-    let count-is : let a = c.args in
+    let count_is : let a = c.args in
     c.smaller-count.result ≡ read_count (length a.buffer.now) a.g.logical a.offset = c.smaller-count.ensures in
     let a = c.args in
     let n = c.smaller-count.result in record {
-      count = count-is;
+      count = count_is;
       bytes = c.copy_blocks.ensures
-          ∙ copied_fork a.image.now a.start a.size a.g c.requires.0 a.offset n a.buffer.now (count-is);
+          ∙ copied_fork a.image.now a.start a.size a.g c.requires.0 a.offset n a.buffer.now (count_is);
     }

@@ -16,8 +16,8 @@ use Rattle.forks.proofs.Copying.{all_done}
 use Rattle.forks.proofs.content.fill_fork.Goals as goal
 
 -- the image keeps its length
-same-long : (n m : ℕ) → n ≡ m → 2048 ≤ m → 2048 ≤ n
-same-long n m e h = omega arith
+same_long : (n m : ℕ) → n ≡ m → 2048 ≤ m → 2048 ≤ n
+same_long n m e h = omega arith
 
 -- no bytes
 pub returns-then-count-eq0 : goal.returns-then-count-eq0
@@ -85,7 +85,7 @@ returns-then-count-stored c =
 pub load-requires : goal.load-requires
 load-requires c =
     let filled : List ℕ = put_content c.args.start c.args.size c.args.image.now (chain_blocks (map_entry c.args.image.now) c.args.blocks c.args.first.0) c.args.offset c.args.bytes.now in
-    let image-long : 2048 ≤ length c.args.image.now = long _ _ _ c.requires.0.area.low c.requires.0.area.room in
+    let image_long : 2048 ≤ length c.args.image.now = long _ _ _ c.requires.0.area.low c.requires.0.area.room in
     let some : 1 ≤ length c.args.bytes.now = omega (arith, c.if-count-eq0.false) in
     let begins : let a = c.args in
     Due a.image.now a.start a.size a.image.now c.block_at-block.result.0 (a.offset % a.size) a.bytes.now filled = let a = c.args in
@@ -98,7 +98,7 @@ load-requires c =
     due_block a.image.now a.start a.size c.loop-stored.image c.loop-stored.block.0 c.loop-stored.at (drop c.loop-stored.stored a.bytes.now) filled
     goes_on in
     let b = numbered in
-    (b.0, b.1, same-long _ _ (c.copy_part.auto.buffer ∙ c.loop-stored.invariant.size) image-long)
+    (b.0, b.1, same_long _ _ (c.copy_part.auto.buffer ∙ c.loop-stored.invariant.size) image_long)
 
 pub loop-stored-preserved : goal.loop-stored-preserved
 loop-stored-preserved c =

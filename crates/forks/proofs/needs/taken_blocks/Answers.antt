@@ -20,7 +20,7 @@ returns-then-need-eq0 c =
 pub blocks_for-requires : goal.blocks_for-requires
 blocks_for-requires c =
     let positive : 0 < clump c.args.f = clump_some c.args.f (omega (arith, c.requires)) in
-    (rw c.clump_blocks-clump.ensures (positive), omega arith)
+    (rw c.clump_blocks-clump.ensures positive, omega arith)
 
 pub overflow_mul-whole : goal.overflow_mul-whole
 unfolding rounded
@@ -30,7 +30,7 @@ overflow_mul-whole c =
     let count : ℕ = block_count (A f) c.args.g in
     let whole_is : c.blocks_for.result * c.clump_blocks-clump.result ≡ rounded (clump f) (count + c.args.need) = ap (λ (n : ℕ). n * c.clump_blocks-clump.result) c.blocks_for.ensures
     ∙ ap₂ (λ (n k : ℕ). fewest (n + c.args.need) k * k) c.block_count-has.ensures c.clump_blocks-clump.ensures in
-    omega (arith, whole_is, rounded_most (clump (f)) (positive) (count + c.args.need))
+    omega (arith, whole_is, rounded_most (clump f) positive (count + c.args.need))
 
 pub overflow_sub-more : goal.overflow_sub-more
 unfolding rounded
@@ -43,7 +43,7 @@ overflow_sub-more c =
     omega (
       arith,
       whole_is,
-      rounded_holds (clump (f)) (positive) (count + c.args.need),
+      rounded_holds (clump f) positive (count + c.args.need),
       c.block_count-has.ensures,
     )
 
@@ -55,7 +55,7 @@ returns-then-free-more c =
     let whole_is : c.blocks_for.result * c.clump_blocks-clump.result ≡ rounded (clump f) (count + c.args.need) = ap (λ (n : ℕ). n * c.clump_blocks-clump.result) c.blocks_for.ensures
     ∙ ap₂ (λ (n k : ℕ). fewest (n + c.args.need) k * k) c.block_count-has.ensures c.clump_blocks-clump.ensures in
     let a = c.args in
-    sym (taken_exact (clump (f)) a.free (count) a.need (omega arith) (omega (arith, whole_is, c.if-free-more.true)))
+    sym (taken_exact (clump f) a.free count a.need (omega arith) (omega (arith, whole_is, c.if-free-more.true)))
 
 pub returns : goal.returns
 unfolding rounded
@@ -65,4 +65,4 @@ returns c =
     let whole_is : c.blocks_for.result * c.clump_blocks-clump.result ≡ rounded (clump f) (count + c.args.need) = ap (λ (n : ℕ). n * c.clump_blocks-clump.result) c.blocks_for.ensures
     ∙ ap₂ (λ (n k : ℕ). fewest (n + c.args.need) k * k) c.block_count-has.ensures c.clump_blocks-clump.ensures in
     let a = c.args in
-    omega (arith, whole_is, taken_whole (clump (f)) a.free (count) a.need (omega arith) (omega (arith, whole_is, c.if-free-more.false)))
+    omega (arith, whole_is, taken_whole (clump f) a.free count a.need (omega arith) (omega (arith, whole_is, c.if-free-more.false)))

@@ -17,13 +17,13 @@ reaches image k h l = rw part_to_end (omega (arith, length-drop 1024 image))
 
 pub slice_bounds-v-count : goal.slice_bounds-v-count
 slice_bounds-v-count c =
-    let from-1024 : 1024 ≤ length c.args.image.now = le_trans (lit≤ tt) c.requires in
-    from-1024
+    let from_1024 : 1024 ≤ length c.args.image.now = le_trans (lit≤ tt) c.requires in
+    from_1024
 
 pub slice_bounds-v-start : goal.slice_bounds-v-start
 slice_bounds-v-start c =
-    let from-1024 : 1024 ≤ length c.args.image.now = le_trans (lit≤ tt) c.requires in
-    from-1024
+    let from_1024 : 1024 ≤ length c.args.image.now = le_trans (lit≤ tt) c.requires in
+    from_1024
 
 pub slice_bounds-v-end : goal.slice_bounds-v-end
 slice_bounds-v-end c = le_refl _

@@ -10,30 +10,30 @@ use Rattle.volume.proofs.wrapping.wrap.Goals as goal
 
 pub returns-then-bad_lengths : goal.returns-then-bad_lengths
 returns-then-bad_lengths c =
-    let image-bytes : Bytes c.args.image.now = octets _ c.type_inv.image in
-    let name-bytes : Bytes c.args.name.now = octets _ c.shared_slice_known-2-1.given in
-    let buffer-bytes : Bytes c.args.buffer.now = octets _ c.slice_known-1.given in
-    wrap_unfit _ _ _ _ (image-bytes) (name-bytes) (omega arith) (buffer-bytes) (sym c.bad_lengths.ensures ∙ c.if-bad_lengths.true)
+    let image_bytes : Bytes c.args.image.now = octets _ c.type_inv.image in
+    let name_bytes : Bytes c.args.name.now = octets _ c.shared_slice_known-2-1.given in
+    let buffer_bytes : Bytes c.args.buffer.now = octets _ c.slice_known-1.given in
+    wrap_unfit _ _ _ _ image_bytes name_bytes (omega arith) buffer_bytes (sym c.bad_lengths.ensures ∙ c.if-bad_lengths.true)
 
 pub returns-then-number-ne0 : goal.returns-then-number-ne0
 returns-then-number-ne0 c =
-    let image-bytes : Bytes c.args.image.now = octets _ c.type_inv.image in
-    let name-bytes : Bytes c.args.name.now = octets _ c.type_inv.name in
-    let buffer-bytes : Bytes c.args.buffer.now = octets _ c.type_inv.buffer in
+    let image_bytes : Bytes c.args.image.now = octets _ c.type_inv.image in
+    let name_bytes : Bytes c.args.name.now = octets _ c.type_inv.name in
+    let buffer_bytes : Bytes c.args.buffer.now = octets _ c.type_inv.buffer in
     let passes = sym c.bad_lengths.ensures ∙ c.if-bad_lengths.false in
-    wrap_refused _ _ _ _ (image-bytes) (name-bytes) (omega arith) (buffer-bytes) (passes)
+    wrap_refused _ _ _ _ image_bytes name_bytes (omega arith) buffer_bytes passes
     (number_is c.check-checked.result c.check-checked.ensures) c.if-number-ne0.true
 
 pub fill-requires : goal.fill-requires
 fill-requires c =
     let passes = sym c.bad_lengths.ensures ∙ c.if-bad_lengths.false in
-    good_lengths _ _ _ (passes)
+    good_lengths _ _ _ passes
 
 pub returns : goal.returns
 returns c =
-    let image-bytes : Bytes c.args.image.now = octets _ c.type_inv.image in
-    let name-bytes : Bytes c.args.name.now = octets _ c.type_inv.name in
-    let buffer-bytes : Bytes c.args.buffer.now = octets _ c.slice_known-1.given in
+    let image_bytes : Bytes c.args.image.now = octets _ c.type_inv.image in
+    let name_bytes : Bytes c.args.name.now = octets _ c.type_inv.name in
+    let buffer_bytes : Bytes c.args.buffer.now = octets _ c.slice_known-1.given in
     let passes = sym c.bad_lengths.ensures ∙ c.if-bad_lengths.false in
-    wrap_done _ _ _ _ (image-bytes) (name-bytes) (omega arith) (buffer-bytes) (passes)
+    wrap_done _ _ _ _ image_bytes name_bytes (omega arith) buffer_bytes passes
     (sym (number_is c.check-checked.result c.check-checked.ensures) ∙ c.if-number-ne0.false) c.fill.ensures

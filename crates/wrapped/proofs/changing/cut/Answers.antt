@@ -13,25 +13,25 @@ use Rattle.wrapped.proofs.changing.cut.Goals as goal
 pub returns-then-number-ne0 : goal.returns-then-number-ne0
 unfolding Fits lent serves_wrapped
 returns-then-number-ne0 c =
-    let file-bytes : Bytes c.args.file.now = octets _ c.slice_known-1.given in
+    let file_bytes : Bytes c.args.file.now = octets _ c.slice_known-1.given in
     let a = c.args in
-    stopped _ (file-bytes) (cut a.name.now a.fork a.size a.changed) _ refl
+    stopped _ file_bytes (cut a.name.now a.fork a.size a.changed) _ refl
     (octets _ c.type_inv.name, omega arith, omega arith) c.judge-number.ensures c.if-number-ne0.true
 
 pub slice_bounds-cut-end : goal.slice_bounds-cut-end
 slice_bounds-cut-end c =
     let passed : container_verdict c.args.file.now ≡ 0 = sym c.judge-number.ensures ∙ c.if-number-ne0.false in
-    reach _ _ c.data_end-end.ensures (passed)
+    reach _ _ c.data_end-end.ensures passed
 
 pub settle-requires : goal.settle-requires
 settle-requires c =
     let passed : container_verdict c.args.file.now ≡ 0 = sym c.judge-number.ensures ∙ c.if-number-ne0.false in
-    room_after _ c.cut-number.new.image c.data_end-end.result (passed) c.cut-number.auto.image
+    room_after _ c.cut-number.new.image c.data_end-end.result passed c.cut-number.auto.image
 
 pub returns : goal.returns
 unfolding serves_wrapped
 returns c =
-    let file-bytes : Bytes c.args.file.now = octets _ c.slice_known-1.given in
+    let file_bytes : Bytes c.args.file.now = octets _ c.slice_known-1.given in
     let passed : container_verdict c.args.file.now ≡ 0 = sym c.judge-number.ensures ∙ c.if-number-ne0.false in
-    changed _ (file-bytes) c.data_end-end.result c.data_end-end.ensures c.cut-number.new.image c.settle.new.file
-    (passed) refl c.cut-number.ensures c.cut-number.auto.image c.settle.ensures
+    changed _ file_bytes c.data_end-end.result c.data_end-end.ensures c.cut-number.new.image c.settle.new.file
+    passed refl c.cut-number.ensures c.cut-number.auto.image c.settle.ensures

@@ -12,25 +12,25 @@ use Rattle.wrapped.proofs.changing.delete.Goals as goal
 pub returns-then-number-ne0 : goal.returns-then-number-ne0
 unfolding Fits lent serves_wrapped
 returns-then-number-ne0 c =
-    let file-bytes : Bytes c.args.file.now = octets _ c.slice_known-1.given in
+    let file_bytes : Bytes c.args.file.now = octets _ c.slice_known-1.given in
     let a = c.args in
-    stopped _ (file-bytes) (delete a.name.now) _ refl
+    stopped _ file_bytes (delete a.name.now) _ refl
     (octets _ c.type_inv.name) c.judge-number.ensures c.if-number-ne0.true
 
 pub slice_bounds-delete-end : goal.slice_bounds-delete-end
 slice_bounds-delete-end c =
     let passed : container_verdict c.args.file.now ≡ 0 = sym c.judge-number.ensures ∙ c.if-number-ne0.false in
-    reach _ _ c.data_end-end.ensures (passed)
+    reach _ _ c.data_end-end.ensures passed
 
 pub settle-requires : goal.settle-requires
 settle-requires c =
     let passed : container_verdict c.args.file.now ≡ 0 = sym c.judge-number.ensures ∙ c.if-number-ne0.false in
-    room_after _ c.delete-number.new.image c.data_end-end.result (passed) c.delete-number.auto.image
+    room_after _ c.delete-number.new.image c.data_end-end.result passed c.delete-number.auto.image
 
 pub returns : goal.returns
 unfolding serves_wrapped
 returns c =
-    let file-bytes : Bytes c.args.file.now = octets _ c.slice_known-1.given in
+    let file_bytes : Bytes c.args.file.now = octets _ c.slice_known-1.given in
     let passed : container_verdict c.args.file.now ≡ 0 = sym c.judge-number.ensures ∙ c.if-number-ne0.false in
-    changed _ (file-bytes) c.data_end-end.result c.data_end-end.ensures c.delete-number.new.image c.settle.new.file
-    (passed) refl c.delete-number.ensures c.delete-number.auto.image c.settle.ensures
+    changed _ file_bytes c.data_end-end.result c.data_end-end.ensures c.delete-number.new.image c.settle.new.file
+    passed refl c.delete-number.ensures c.delete-number.auto.image c.settle.ensures

@@ -12,17 +12,17 @@ use Rattle.wrapped.proofs.reading.check.Goals as goal
 pub returns-then-number-ne0 : goal.returns-then-number-ne0
 unfolding Fits only lent serves_wrapped
 returns-then-number-ne0 c =
-    let file-bytes : Bytes c.args.file.now = octets _ c.type_inv.file in
-    rw c.no_facts.ensures (stopped _ (file-bytes) check _ refl tt c.judge-number.ensures c.if-number-ne0.true)
+    let file_bytes : Bytes c.args.file.now = octets _ c.type_inv.file in
+    rw c.no_facts.ensures (stopped _ file_bytes check _ refl tt c.judge-number.ensures c.if-number-ne0.true)
 
 pub data-requires : goal.data-requires
 data-requires c =
     let passed : container_verdict c.args.file.now ≡ 0 = sym c.judge-number.ensures ∙ c.if-number-ne0.false in
-    room _ (passed)
+    room _ passed
 
 pub returns : goal.returns
 unfolding serves_wrapped
 returns c =
-    let file-bytes : Bytes c.args.file.now = octets _ c.type_inv.file in
+    let file_bytes : Bytes c.args.file.now = octets _ c.type_inv.file in
     let passed : container_verdict c.args.file.now ≡ 0 = sym c.judge-number.ensures ∙ c.if-number-ne0.false in
-    served _ (file-bytes) (passed) refl c.data.ensures c.check.ensures
+    served _ file_bytes passed refl c.data.ensures c.check.ensures

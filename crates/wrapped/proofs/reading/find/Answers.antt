@@ -12,19 +12,19 @@ use Rattle.wrapped.proofs.reading.find.Goals as goal
 pub returns-then-number-ne0 : goal.returns-then-number-ne0
 unfolding Fits only lent serves_wrapped
 returns-then-number-ne0 c =
-    let file-bytes : Bytes c.args.file.now = octets _ c.type_inv.file in
+    let file_bytes : Bytes c.args.file.now = octets _ c.type_inv.file in
     let a = c.args in
     rw c.no_entry.ensures
-    (stopped _ (file-bytes) (find a.name.now) _ refl (octets _ c.type_inv.name) c.judge-number.ensures c.if-number-ne0.true)
+    (stopped _ file_bytes (find a.name.now) _ refl (octets _ c.type_inv.name) c.judge-number.ensures c.if-number-ne0.true)
 
 pub data-requires : goal.data-requires
 data-requires c =
     let passed : container_verdict c.args.file.now ≡ 0 = sym c.judge-number.ensures ∙ c.if-number-ne0.false in
-    room _ (passed)
+    room _ passed
 
 pub returns : goal.returns
 unfolding serves_wrapped
 returns c =
-    let file-bytes : Bytes c.args.file.now = octets _ c.type_inv.file in
+    let file_bytes : Bytes c.args.file.now = octets _ c.type_inv.file in
     let passed : container_verdict c.args.file.now ≡ 0 = sym c.judge-number.ensures ∙ c.if-number-ne0.false in
-    served _ (file-bytes) (passed) refl c.data.ensures c.find.ensures
+    served _ file_bytes passed refl c.data.ensures c.find.ensures
