@@ -8,4 +8,5 @@ pub mod Quick
 pub mod Container
 pub mod Calls
 pub mod Wrapped
+pub mod Refusals
 pub mod Cases

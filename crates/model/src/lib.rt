@@ -11,20 +11,22 @@ mod block_numbers;
 mod copying;
 mod fork_facts;
 mod numbers;
+mod refusal;
 mod volume_facts;
 
 pub use copying::copy_part;
 pub use fork_facts::block_count;
 pub use numbers::{be16_at, be32_at};
+pub use refusal::{Refusal, done_number};
 
 // The number of an allocation block: 2 to N + 1.
 #[repr(C)]
-#[derive(Clone, Copy)]
+#[derive(Clone, Copy, Debug, PartialEq, Eq)]
 pub struct AllocationBlock(pub u16);
 
 // The number of a logical block of 512 bytes.
 #[repr(C)]
-#[derive(Clone, Copy)]
+#[derive(Clone, Copy, Debug, PartialEq, Eq)]
 pub struct LogicalBlock(pub u32);
 
 // The facts of the volume information.
@@ -49,7 +51,7 @@ pub struct VolumeFacts {
 }
 
 // What a map entry says of its block.
-#[derive(Clone, Copy)]
+#[derive(Clone, Copy, Debug, PartialEq, Eq)]
 pub enum MapValue {
     Free,
     Last,
@@ -73,7 +75,7 @@ pub struct TwoEntries {
 }
 
 // A call's choice of fork.
-#[derive(Clone, Copy)]
+#[derive(Clone, Copy, Debug, PartialEq, Eq)]
 pub enum Fork {
     Data,
     Resource,

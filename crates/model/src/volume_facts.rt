@@ -3,7 +3,6 @@ ghost use Rattle.std.specs.Prelude.{◌≡◌, ◌+◌, ◌≤◌, length};
 ghost use Rattle.model.specs.Bytes.{part};
 ghost use Rattle.model.specs.Facts.{facts_of};
 
-use crate::copying::copy_part;
 use crate::numbers::{be16_at, be32_at};
 use crate::{LogicalBlock, VolumeFacts};
 
@@ -13,7 +12,7 @@ fn name_at(s: &[u8], at: usize) -> [u8; 27]
     ensures { result ≡ part at 27 s.now }
 {
     let mut name = [0; VolumeFacts::MOST_NAME];
-    copy_part(s, at, &mut name, 0, VolumeFacts::MOST_NAME);
+    name.copy_from_slice(&s[at..at + VolumeFacts::MOST_NAME]);
     name
 }
 
