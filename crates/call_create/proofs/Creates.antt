@@ -1,8 +1,10 @@
 -- The returns of create: its refusals in their order, and the change.
+use Rattle.std.proofs.Common.{Result, Ok, Err}
+use Rattle.std.specs.Result.{is_ok}
 use Prim.Native.Nat.{ℕ, ◌+◌, ◌*◌, ◌≤◌, ◌<◌}
 use mathlib.Core.Path.{◌≡◌, refl, subst}
 use mathlib.Core.Bool.{true, false}
-use mathlib.Core.List.{List}
+use mathlib.Core.List.{List, []}
 use native.Mathlib.Omega.{arith}
 use lib.ListN.{length, drop}
 use borrow.Author.Tests.{eq-eqb, ne_eqb}
@@ -10,7 +12,7 @@ use Rattle.model.specs.Lists.{any}
 use Rattle.model.specs.Bytes.{Bytes}
 use Rattle.model.specs.Facts.{facts_of, dir_start, dir_length, next_file_number, is_locked}
 use Rattle.model.specs.Directory.{padded, cut_blocks, directory_blocks, directory, named}
-use Rattle.model.specs.Calls.{Does, Fits, name_of, fork_given, bad_name, too_long, checks, refuses, carries, known_in, has_room, change, lent, reply}
+use Rattle.model.specs.Calls.{only, Does, Fits, name_of, fork_given, bad_name, too_long, checks, refuses, carries, known_in, has_room, change, lent, reply}
 use Rattle.model.specs.Calls.Call.{create}
 use Rattle.laws.proofs.Refusals.{GoodName, good_name}
 use Rattle.directory.specs.Cursor.{Begins}
@@ -18,10 +20,10 @@ use Rattle.entries.specs.Rooms.{HasRoom}
 use Rattle.entries.proofs.Rooming.{no_room}
 use Rattle.model.specs.declared.VolumeFacts.{VolumeFacts}
 use Rattle.directory.specs.declared.Cursor.{Cursor}
-use Rattle.directory.specs.declared.EntryAt.{EntryAt}
 use Rattle.call_create.specs.Adding.{Adds, with_file}
-use Rattle.files.specs.Told.{told_number}
-use Rattle.files.specs.Lookup.{Readable, NamedEntry, Missed}
+use Rattle.files.specs.Lookup.{Readable, Names}
+use Rattle.files.specs.declared.Named.{Named}
+use Rattle.model.specs.declared.refusal.Refusal.{Refusal}
 use Rattle.call_create.proofs.Added.{adds_some}
 use Rattle.files.proofs.Lookups.{missed_none}
 use Rattle.files.proofs.Replies.{refuse, serve}
@@ -59,39 +61,38 @@ pub record Fresh (image name : List ℕ) : Type 0 where
   pub title : Short name
   pub none : any (named name) (directory image) ≡ false
 
-pub fresh : {image name : List ℕ} {number : ℕ} → Short name → Missed image name number → Fresh image name
-fresh s m = record {
-  title = s;
-  none = missed_none s.good m;
-}
+pub fresh : {image name : List ℕ} → Short name → (r : Result Named Refusal) → Names image name r → is_ok r ≡ false → Fresh image name
+fresh s (Ok named) m z = absurd (cc)
+fresh s (Err refusal) m z = record { title = s; none = missed_none s.good m }
 
 pub fresh_title : {image name : List ℕ} → Fresh image name → GoodName name
 fresh_title {name = name} h = good_name name h.title.good
 
 module _ {f : VolumeFacts} {image : List ℕ} (r : Readable f image) (octets : Bytes image)
     {name finder : List ℕ} {made changed : ℕ} (fits : Fits (create name finder made changed)) where
-  pub create_locked : is_locked f ≡ true → Does (create name finder made changed) image (told_number 11) image
+  pub create_locked : is_locked f ≡ true → Does (create name finder made changed) image (only 11 []) image
   unfolding checks refuses carries known_in name_of fork_given lent
   create_locked h = let h' = rw r.facts at h in refuse r octets (create name finder made changed) 11 fits refl (rw h') (λ z. omega arith) refl
 
   module _ (l : is_locked f ≡ false) where
-    pub create_untitled : bad_name name ≡ true → Does (create name finder made changed) image (told_number 12) image
+    pub create_untitled : bad_name name ≡ true → Does (create name finder made changed) image (only 12 []) image
     unfolding checks refuses carries known_in name_of fork_given lent
     create_untitled t = let l' = rw r.facts at l in refuse r octets (create name finder made changed) 12 fits refl (rw (l', t)) (λ z. omega arith) refl
 
-    pub create_long : bad_name name ≡ false → too_long name ≡ true → Does (create name finder made changed) image (told_number 21) image
+    pub create_long : bad_name name ≡ false → too_long name ≡ true → Does (create name finder made changed) image (only 21 []) image
     unfolding checks refuses carries known_in name_of fork_given lent
     create_long g t = let l' = rw r.facts at l in refuse r octets (create name finder made changed) 21 fits refl (rw (l', g, t)) (λ z. omega arith) refl
 
-    pub create_exists : Short name → {place : ℕ} {e : EntryAt} → NamedEntry image name place e
-        → Does (create name finder made changed) image (told_number 14) image
+    pub create_exists : Short name → (n : Result Named Refusal) → Names image name n → is_ok n ≡ true
+        → Does (create name finder made changed) image (only 14 []) image
     unfolding checks refuses carries known_in name_of fork_given lent
-    create_exists s h =
+    create_exists s (Err refusal) h z = absurd (cc)
+    create_exists s (Ok named) h z =
         let l' = rw r.facts at l in
         refuse r octets (create name finder made changed) 14 fits refl (rw (l', s.good, s.short, h.there.exists)) (λ z. omega arith) refl
 
     module _ (new : Fresh image name) where
-      pub create_last : next_file_number f ≡ 4294967295 → Does (create name finder made changed) image (told_number 19) image
+      pub create_last : next_file_number f ≡ 4294967295 → Does (create name finder made changed) image (only 19 []) image
       unfolding checks refuses carries known_in name_of fork_given lent
       create_last n =
           let l' = rw r.facts at l in
@@ -101,7 +102,7 @@ module _ {f : VolumeFacts} {image : List ℕ} (r : Readable f image) (octets : B
 
       module _ (n : next_file_number f ≡ 4294967295 → ⊥) where
         pub create_full : {c : Cursor} → Begins (dir_start f) (dir_length f) c → {size : ℕ} → size ≡ padded (51 + length name)
-            → any (has_room size) (cut_blocks (c.left + 1) (drop c.base image)) ≡ false → Does (create name finder made changed) image (told_number 18) image
+            → any (has_room size) (cut_blocks (c.left + 1) (drop c.base image)) ≡ false → Does (create name finder made changed) image (only 18 []) image
         unfolding checks refuses carries known_in name_of fork_given lent
         create_full {c} b {size} q h =
             let l' = rw r.facts at l in
@@ -111,7 +112,7 @@ module _ {f : VolumeFacts} {image : List ℕ} (r : Readable f image) (octets : B
             (rw (l', new.title.good, new.title.short, new.none, ne_eqb (next_file_number (facts_of image)) 4294967295 n', h')) (λ z. omega arith) refl
 
         pub create_served : {base end : ℕ} → Adds f image (length name) base end → {after : List ℕ} → after ≡ with_file f image name finder made changed
-            → Does (create name finder made changed) image (told_number 0) after
+            → Does (create name finder made changed) image (only 0 []) after
         unfolding checks refuses known_in name_of fork_given reply change
         create_served {base} {end} a p =
             let l' = rw r.facts at l in

@@ -5,8 +5,8 @@ ghost use Rattle.files.specs.Told.{told_number};
 
 use directory::entry_size;
 use entries::Space;
-use files::{Named, bad_name, first_entry, is_locked, lookup, too_long};
-use model::VolumeFacts;
+use files::{bad_name, first_entry, is_locked, lookup, too_long};
+use model::{Refusal, VolumeFacts};
 
 // On an accepted image, whose facts are f.
 pub fn serve_create(
@@ -16,33 +16,31 @@ pub fn serve_create(
     finder: &[u8; 16],
     created: u32,
     changed: u32,
-) -> u8
+) -> Result<(), Refusal>
     requires { Readable f image.old }
     ensures { Does (Call.create name.now finder.now created changed) image.old (told_number result) image.new }
 {
     crate::add::whole(finder);
     if is_locked(f) {
-        return 11;
+        return Err(Refusal::VolumeLocked);
     }
     if bad_name(name) {
-        return 12;
+        return Err(Refusal::BadName);
     }
     if too_long(name) {
-        return 21;
+        return Err(Refusal::NameTooLong);
     }
-    match lookup(image, f, name) {
-        Named::At(_, _) => 14,
-        Named::Refused(_) => {
-            if f.next_number == VolumeFacts::LAST_NUMBER {
-                return 19;
-            }
-            match entries::find_room(image, first_entry(f), entry_size(name.len())) {
-                Space::Nothing => 18,
-                Space::At(base, end) => {
-                    crate::add::add_file(image, f, base, end, name, finder, created, changed);
-                    0
-                }
-            }
+    if lookup(image, f, name).is_ok() {
+        return Err(Refusal::NameExists);
+    }
+    if f.next_number == VolumeFacts::LAST_NUMBER {
+        return Err(Refusal::LastNumber);
+    }
+    match entries::find_room(image, first_entry(f), entry_size(name.len())) {
+        Space::Nothing => Err(Refusal::DirectoryFull),
+        Space::At(base, end) => {
+            crate::add::add_file(image, f, base, end, name, finder, created, changed);
+            Ok(())
         }
     }
 }

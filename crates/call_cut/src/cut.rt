@@ -3,8 +3,8 @@ ghost use Rattle.model.specs.Calls.{Call, Does};
 ghost use Rattle.files.specs.Lookup.{Readable};
 ghost use Rattle.files.specs.Told.{told_number};
 
-use files::{NamedFork, changeable_fork};
-use model::{Fork, VolumeFacts};
+use files::changeable_fork;
+use model::{Fork, Refusal, VolumeFacts};
 
 // On an accepted image, whose facts are f.
 pub fn serve_cut(
@@ -14,15 +14,12 @@ pub fn serve_cut(
     fork: Fork,
     size: u64,
     changed: u32,
-) -> u8
+) -> Result<(), Refusal>
     requires { Readable f image.old }
     ensures { Does (Call.cut name.now fork size changed) image.old (told_number result) image.new }
 {
-    match changeable_fork(image, f, name, fork, size) {
-        NamedFork::Refused(number) => number,
-        NamedFork::At(e, g) => {
-            crate::shorten::shorten_fork(image, f, e, fork, g, size as u32, changed);
-            0
-        }
-    }
+    let named = changeable_fork(image, f, name, fork, size)?;
+    let (e, g) = (named.entry, named.facts);
+    crate::shorten::shorten_fork(image, f, e, fork, g, size as u32, changed);
+    Ok(())
 }

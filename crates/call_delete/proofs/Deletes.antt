@@ -1,13 +1,12 @@
 -- The return of delete.
 use Prim.Native.Nat.{ℕ}
 use mathlib.Core.Path.{refl, ◌∙◌}
-use mathlib.Core.List.{List}
+use mathlib.Core.List.{List, []}
 use Rattle.model.specs.Bytes.{Bytes}
-use Rattle.model.specs.Calls.{Does, Fits, deleted, change}
+use Rattle.model.specs.Calls.{only, Does, Fits, deleted, change}
 use Rattle.model.specs.Calls.Call.{delete}
 use Rattle.model.specs.declared.VolumeFacts.{VolumeFacts}
 use Rattle.directory.specs.declared.EntryAt.{EntryAt}
-use Rattle.files.specs.Told.{told_number}
 use Rattle.files.specs.Lookup.{Readable, Changeable}
 use Rattle.files.specs.Leaves.{Deleted}
 use Rattle.files.proofs.Forks.{named_bytes}
@@ -21,7 +20,7 @@ delete_fits name letters = letters
 
 pub delete_served : {f : VolumeFacts} {image : List ℕ} (r : Readable f image) → Bytes image → {name : List ℕ} → Fits (delete name)
     → {place : ℕ} {e : EntryAt} → Changeable image name place e
-    → {left : List ℕ} → Deleted f image e left → Does (delete name) image (told_number 0) left
+    → {left : List ℕ} → Deleted f image e left → Does (delete name) image (only 0 []) left
 unfolding change
 delete_served {f} {image} r octets {name} fits {place} {e} h s =
     done r octets delete_changing fits h refl refl

@@ -1,4 +1,5 @@
 -- The returns of quick find on an image that passes checks 1 to 4.
+use Rattle.std.proofs.Common.{Ok}
 use Prim.Native.Nat.{ℕ, ◌+◌, ◌*◌, ◌≤◌}
 use mathlib.Core.Path.{◌≡◌, refl, sym, ◌∙◌}
 use mathlib.Core.Bool.{true, false}
@@ -85,7 +86,7 @@ module _ {f : VolumeFacts} {image : List ℕ} (o : Opened f image) where
           → FirstNamed image name (quick_listing (directory_blocks (facts_of image) image)) place e
           × (looked ≡ looked_at name (directory_blocks (facts_of image) image))
           → n ≡ entry_in (bytes_at image e)
-          → Does (quick_find name) image (told_quick_find (record { number = 0; place = place; entry = n; looked = looked })) image
+          → Does (quick_find name) image (told_quick_find (Ok (record { place = place; entry = n; looked = looked }))) image
       unfolding Fits checks refuses known_in name_of fork_given reply change tells_quick quick_directory blocks_looked
       served h q =
           rw (q, h.0.bytes, h.0.there, h.1)

@@ -3,4 +3,4 @@
 
 mod quick_find;
 
-pub use quick_find::{refused, serve_quick_find};
+pub use quick_find::serve_quick_find;

@@ -4,40 +4,27 @@ ghost use Rattle.files.specs.Lookup.{Readable};
 ghost use Rattle.files.specs.Told.{told_entry, told_find};
 
 use directory::Found;
-use files::{EntryAnswer, FindAnswer, Named, first_entry, lookup, no_entry};
-use model::VolumeFacts;
+use files::{FoundFile, first_entry, lookup};
+use model::{DirectoryEntry, Refusal, VolumeFacts};
 
 // For a program that has checked the image: its facts spare the check for each file.
-pub fn serve_entry(image: &[u8], f: VolumeFacts, place: u64) -> EntryAnswer
+pub fn serve_entry(image: &[u8], f: VolumeFacts, place: u64) -> Result<DirectoryEntry, Refusal>
     requires { Readable f image.now }
     ensures { Does (Call.entry place) image.now (told_entry result) image.now }
 {
     match directory::entry_at(image, first_entry(f), place) {
-        Found::At(_, e) => EntryAnswer {
-            number: 0,
-            entry: directory::read_entry(image, e),
-        },
-        Found::Nothing => EntryAnswer {
-            number: 13,
-            entry: no_entry(),
-        },
+        Found::At(_, e) => Ok(directory::read_entry(image, e)),
+        Found::Nothing => Err(Refusal::NotFound),
     }
 }
 
-pub fn serve_find(image: &[u8], f: VolumeFacts, name: &[u8]) -> FindAnswer
+pub fn serve_find(image: &[u8], f: VolumeFacts, name: &[u8]) -> Result<FoundFile, Refusal>
     requires { Readable f image.now }
     ensures { Does (Call.find name.now) image.now (told_find result) image.now }
 {
-    match lookup(image, f, name) {
-        Named::Refused(number) => FindAnswer {
-            number,
-            place: 0,
-            entry: no_entry(),
-        },
-        Named::At(place, e) => FindAnswer {
-            number: 0,
-            place: place as u64,
-            entry: directory::read_entry(image, e),
-        },
-    }
+    let named = lookup(image, f, name)?;
+    Ok(FoundFile {
+        place: named.place as u64,
+        entry: directory::read_entry(image, named.entry),
+    })
 }

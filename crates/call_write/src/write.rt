@@ -3,9 +3,9 @@ ghost use Rattle.model.specs.Calls.{Call, Does};
 ghost use Rattle.files.specs.Lookup.{Readable};
 ghost use Rattle.files.specs.Told.{told_number};
 
-use files::{NamedFork, changeable_fork};
+use files::changeable_fork;
 use forks::{needed_blocks, taken_blocks};
-use model::{Fork, VolumeFacts};
+use model::{Fork, Refusal, VolumeFacts};
 
 // On an accepted image, whose facts are f.
 pub fn serve_write(
@@ -16,21 +16,18 @@ pub fn serve_write(
     offset: u64,
     bytes: &[u8],
     changed: u32,
-) -> u8
+) -> Result<(), Refusal>
     requires { Readable f image.old }
     ensures { Does (Call.write name.now fork offset bytes.now changed) image.old (told_number result) image.new }
 {
-    match changeable_fork(image, f, name, fork, offset) {
-        NamedFork::Refused(number) => number,
-        NamedFork::At(e, g) => {
-            let at = offset as usize;
-            let needed = needed_blocks(f, g, at, bytes.len());
-            if needed.number != 0 {
-                return needed.number;
-            }
-            let taken = taken_blocks(f, g, f.free_blocks, needed.blocks);
-            crate::grow::grow_fork(image, f, e, fork, g, taken, at, bytes, changed);
-            0
-        }
+    let named = changeable_fork(image, f, name, fork, offset)?;
+    let (e, g) = (named.entry, named.facts);
+    let at = offset as usize;
+    let needed = needed_blocks(f, g, at, bytes.len());
+    if needed.number != 0 {
+        return Err(Refusal::VolumeFull);
     }
+    let taken = taken_blocks(f, g, f.free_blocks, needed.blocks);
+    crate::grow::grow_fork(image, f, e, fork, g, taken, at, bytes, changed);
+    Ok(())
 }

@@ -9,7 +9,7 @@ mod table;
 mod tally;
 mod verdict;
 
-pub use limits::{bad_length, facts_number};
+pub use limits::{bad_length, judge_facts};
 pub use verdict::judge;
 
 // What is compared of two entries.

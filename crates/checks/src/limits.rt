@@ -1,9 +1,10 @@
 // Checks 1 to 4: what the length of the image and the volume facts may be.
 ghost use Rattle.std.specs.Prelude.{◌≡◌};
 ghost use Rattle.model.specs.Check.{fires1, fires3, facts_number};
+ghost use Rattle.model.specs.Refusals.{done_number};
 ghost use Rattle.checks.specs.Limits.{Sized};
 
-use model::VolumeFacts;
+use model::{Refusal, VolumeFacts};
 
 // Check 1.
 pub fn bad_length(size: usize) -> bool
@@ -64,18 +65,18 @@ fn bad_layout(f: VolumeFacts, blocks: usize) -> bool
 }
 
 // Checks 2 to 4.
-pub fn facts_number(f: VolumeFacts, blocks: usize) -> u8
+pub fn judge_facts(f: VolumeFacts, blocks: usize) -> Result<(), Refusal>
     requires { Sized f blocks }
-    ensures { result ≡ facts_number f blocks }
+    ensures { done_number result ≡ facts_number f blocks }
 {
     if f.signature != VolumeFacts::SIGNATURE {
-        return 2;
+        return Err(Refusal::BadSignature);
     }
     if bad_layout(f, blocks) {
-        return 3;
+        return Err(Refusal::BadLayout);
     }
     if VolumeFacts::MOST_NAME < f.name_length as usize {
-        return 4;
+        return Err(Refusal::BadVolumeName);
     }
-    0
+    Ok(())
 }

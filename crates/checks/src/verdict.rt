@@ -4,33 +4,34 @@ ghost use Rattle.std.specs.Prelude.{◌≡◌, ◌≤◌};
 ghost use Rattle.model.specs.Check.{from2, from8};
 ghost use Rattle.model.specs.Directory.{forks_in};
 ghost use Rattle.model.specs.Map.{map_entry};
+ghost use Rattle.model.specs.Refusals.{done_number};
 ghost use Rattle.blockmap.specs.Decoded.{decoded_entry, Decoded};
 ghost use Rattle.directory.specs.Cursor.{rest_of, CursorFits, Passes};
 ghost use Rattle.checks.specs.Numbers.{directory_number, Claims, Judged, Mapped};
 
-use crate::limits::facts_number;
+use crate::limits::judge_facts;
 use directory::{Advance, Cursor};
-use model::{Fork, VolumeFacts};
+use model::{Fork, Refusal, VolumeFacts};
 
 // Checks 6 and 7.
-fn directory_number(image: &[u8], c: Cursor, files: u16, next: u32) -> u8
+fn judge_directory(image: &[u8], c: Cursor, files: u16, next: u32) -> Result<(), Refusal>
     requires { CursorFits image.now c }
-    ensures { result ≡ directory_number files next (rest_of image.now c) }
+    ensures { done_number result ≡ directory_number files next (rest_of image.now c) }
 {
     let t = crate::tally::count_entries(image, c, next);
     if t.bad {
-        return 6;
+        return Err(Refusal::BadEntry);
     }
     if t.count != files as usize {
-        return 7;
+        return Err(Refusal::BadFiles);
     }
     if !t.numbered {
-        return 7;
+        return Err(Refusal::BadFiles);
     }
     if !crate::differ::all_differ(image, c, t.count) {
-        return 7;
+        return Err(Refusal::BadFiles);
     }
-    0
+    Ok(())
 }
 
 // Whether each fork is good and shares no block with one before it. Their blocks are marked.
@@ -68,43 +69,41 @@ fn claim_all(
 }
 
 // Checks 8 to 10, from the decoded map.
-fn map_number(image: &[u8], f: VolumeFacts, c: Cursor, entries: &[u16; 642]) -> u8
+fn judge_map(
+    image: &[u8],
+    f: VolumeFacts,
+    c: Cursor,
+    entries: &[u16; 642],
+) -> Result<(), Refusal>
     requires { Mapped f image.now c entries.now }
-    ensures { result ≡ from8 f (map_entry image.now) (forks_in (rest_of image.now c)) }
+    ensures { done_number result ≡ from8 f (map_entry image.now) (forks_in (rest_of image.now c)) }
 {
     let n = f.allocation_blocks;
     let mut marks = [0u8; 642];
     if !claim_all(image, c, entries, n, f.block_size, &mut marks) {
-        return 8;
+        return Err(Refusal::BadFork);
     }
     if blockmap::any_unowned(entries, n, &marks) {
-        return 9;
+        return Err(Refusal::LostBlock);
     }
     if blockmap::free_count(entries, n) != f.free_blocks {
-        return 10;
+        return Err(Refusal::BadFreeCount);
     }
-    0
+    Ok(())
 }
 
 // Checks 2 to 10.
-pub fn judge(image: &[u8], f: VolumeFacts) -> u8
+pub fn judge(image: &[u8], f: VolumeFacts) -> Result<(), Refusal>
     requires { Judged f image.now }
-    ensures { result ≡ from2 f image.now }
+    ensures { done_number result ≡ from2 f image.now }
 {
-    let number = facts_number(f, image.len() / 512);
-    if number != 0 {
-        return number;
-    }
+    judge_facts(f, image.len() / 512)?;
     let mut entries = [0u16; 642];
     blockmap::decode(image, f.allocation_blocks, &mut entries);
     if blockmap::any_bad(&entries, f.allocation_blocks) {
-        return 5;
+        return Err(Refusal::BadMapEntry);
     }
-    let start = f.directory_start;
-    let c = Cursor::new(start, f.directory_length);
-    let number = directory_number(image, c, f.files, f.next_number);
-    if number != 0 {
-        return number;
-    }
-    map_number(image, f, c, &entries)
+    let c = Cursor::new(f.directory_start, f.directory_length);
+    judge_directory(image, c, f.files, f.next_number)?;
+    judge_map(image, f, c, &entries)
 }

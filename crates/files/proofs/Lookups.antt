@@ -21,9 +21,7 @@ use Rattle.directory.specs.declared.Cursor.{Cursor}
 use Rattle.directory.specs.declared.EntryAt.{EntryAt}
 use Rattle.directory.specs.declared.Found as sort
 use Rattle.directory.specs.declared.Found.TheVariants as found
-use Rattle.files.specs.declared.Named.{Named}
-use Rattle.files.specs.declared.Named.TheVariants.{At, Refused}
-use Rattle.files.specs.Lookup.{Readable, NamedEntry, Missed, Names}
+use Rattle.files.specs.Lookup.{Readable, NamedEntry, Missed}
 
 -- ---- names
 
@@ -38,14 +36,6 @@ missed_none {image} {name} {number} g m = go (any (named name) (directory image)
     go : (t : Bool) → number ≡ or_else (not t) 13 0 → t ≡ false
     go true h = absurd (m.some h)
     go false h = refl
-
--- what a name names, by its case
-module _ {image name : List ℕ} {n : Named} where
-  pub names_file : {place : ℕ} {e : EntryAt} → Names image name n → n ≡ At place e → NamedEntry image name place e
-  names_file h p = rw p at h
-
-  pub names_none : {number : ℕ} → Names image name n → n ≡ Refused number → Missed image name number
-  names_none h p = rw p at h
 
 -- ---- an accepted image's directory
 

@@ -21,13 +21,8 @@ use Rattle.model.specs.declared.VolumeFacts.{VolumeFacts}
 use Rattle.model.specs.declared.Fork.{Fork}
 use Rattle.model.specs.declared.ForkFacts.{ForkFacts}
 use Rattle.directory.specs.declared.EntryAt.{EntryAt}
-use Rattle.files.specs.Told.{told_number}
-use Rattle.files.specs.declared.Named.{Named}
-use Rattle.files.specs.declared.Named.TheVariants.{At, Refused}
-use Rattle.files.specs.declared.NamedFork.{NamedFork}
-use Rattle.files.specs.declared.NamedFork.TheVariants as variant
 use Rattle.files.specs.Lookup.{Readable, NamedEntry, Missed, ForkAt}
-use Rattle.files.specs.Lookup.{barred, Barred, Changeable, MayChange, beyond_end, ChangeableFork, MayChangeFork}
+use Rattle.files.specs.Lookup.{barred, Barred, Changeable, beyond_end, ChangeableFork}
 use Rattle.files.proofs.Forks.{named_bytes, named_fork}
 use Rattle.files.proofs.Replies.{fires_before, refuse, serve}
 
@@ -110,14 +105,6 @@ past_15 r h beyond rest =
     let l = rw (named_bytes r h.found) at h.unlocked in
     rw (h.writable, h.found.title, h.found.there.exists, l)
 
--- which it is, by its case
-module _ {image name : List ℕ} {n : Named} where
-  pub changed_file : {place : ℕ} {e : EntryAt} → MayChange image name n → n ≡ At place e → Changeable image name place e
-  changed_file h p = rw p at h
-
-  pub changed_none : {number : ℕ} → MayChange image name n → n ≡ Refused number → Barred image name false number
-  changed_none h p = rw p at h
-
 -- ---- the fork that may be changed
 
 -- 11, 12, 13 or 15
@@ -132,16 +119,6 @@ pub barred_16 : {f : VolumeFacts} {image name : List ℕ} {place : ℕ} {e : Ent
 barred_16 {f} {image} {name} r h fork offset q l =
     let l' = rw (named_fork r h.found fork q) at l in
     record { fires = sym (past_15 r h (beyond_end image name fork offset) 0 ∙ rw (lt-ltb _ offset l')); some = λ z. omega arith }
-
--- which it is, by its case
-module _ {image name : List ℕ} {n : NamedFork} where
-  pub changed_fork_lem : {fork : Fork} {offset : ℕ} {e : EntryAt} {g : ForkFacts} → MayChangeFork image name fork offset n → n ≡ variant.At e g
-      → ChangeableFork image name fork offset e g
-  changed_fork_lem h p = rw p at h
-
-  pub changed_no_fork : (fork : Fork) (offset : ℕ) {number : ℕ} → MayChangeFork image name fork offset n → n ≡ variant.Refused number
-      → Barred image name (beyond_end image name fork offset) number
-  changed_no_fork fork offset h p = rw p at h
 
 module _ {f : VolumeFacts} {image name : List ℕ} {fork : Fork} {offset : ℕ} {e : EntryAt} {g : ForkFacts}
     (r : Readable f image) (h : ChangeableFork image name fork offset e g) where
@@ -161,11 +138,11 @@ module _ {f : VolumeFacts} {image name : List ℕ} {fork : Fork} {offset : ℕ} 
 module _ {f : VolumeFacts} {image : List ℕ} (r : Readable f image) (octets : Bytes image)
     {call : Call} {name : List ℕ} {beyond : Bool} {rest : ℕ} (c : Changing call image name beyond rest) (fits : Fits call) where
   -- refused by n
-  stops : (n : ℕ) → n ≡ barred image name beyond rest → (n ≡ 0 → ⊥) → Does call image (told_number n) image
+  stops : (n : ℕ) → n ≡ barred image name beyond rest → (n ≡ 0 → ⊥) → Does call image (only n []) image
   stops n h z = subst (λ (l : List ℕ). Does call image (only n l) image) c.lends (refuse r octets call n fits c.first (h ∙ sym c.own) z (c.bare n))
 
   -- 11, 12, 13, 15 or 16
-  pub refused : {n : ℕ} → Barred image name beyond n → Does call image (told_number n) image
+  pub refused : {n : ℕ} → Barred image name beyond n → Does call image (only n []) image
   refused {n} h = stops n (barred_before image name beyond rest n h) h.some
 
   module _ {place : ℕ} {e : EntryAt} (h : Changeable image name place e) (within : beyond ≡ false) where
@@ -173,10 +150,10 @@ module _ {f : VolumeFacts} {image : List ℕ} (r : Readable f image) (octets : B
     past_16 = past_15 r h beyond rest ∙ rw within
 
     -- 17
-    pub refused_own : {n : ℕ} → rest ≡ n → (n ≡ 0 → ⊥) → Does call image (told_number n) image
+    pub refused_own : {n : ℕ} → rest ≡ n → (n ≡ 0 → ⊥) → Does call image (only n []) image
     refused_own {n} q z = stops n (sym (past_16 ∙ q)) z
 
-    pub done : rest ≡ 0 → {left : List ℕ} → left ≡ change call image → Does call image (told_number 0) left
+    pub done : rest ≡ 0 → {left : List ℕ} → left ≡ change call image → Does call image (only 0 []) left
     done q l =
         subst (λ (x : List ℕ). Does call image (only 0 []) x) (sym l)
         (subst (λ x. Does call image x (change call image)) c.tells (serve r octets call fits c.first (c.own ∙ past_16 ∙ q)))

@@ -1,21 +1,21 @@
 -- What a name given to a call names, and which files and forks a call may change.
-use Rattle.std.specs.Prelude.{ℕ, ◌*◌, ◌≤◌, ◌≡◌, Bool, false, not, List, ltb}
+use Rattle.std.specs.Prelude.{ℕ, ◌*◌, ◌≤◌, ◌≡◌, Bool, false, not, List, ltb, Result, Ok, Err}
 use Rattle.model.specs.Bytes.{byte}
 use Rattle.model.specs.Facts.{facts_of, dir_start, dir_length, is_locked}
 use Rattle.model.specs.Lists.{any}
 use Rattle.model.specs.Directory.{directory, fork_of, flags_lock, named}
 use Rattle.model.specs.Check.{or_else, Accepted}
 use Rattle.model.specs.Calls.{bad_name, entry_named}
+use Rattle.model.specs.Refusals.{number_of}
 use Rattle.directory.specs.Cursor.{bytes_at, Lies}
 use Rattle.directory.specs.Search.{FirstNamed}
 use Rattle.directory.specs.declared.EntryAt.{EntryAt}
 use Rattle.model.specs.declared.VolumeFacts.{VolumeFacts}
 use Rattle.model.specs.declared.Fork.{Fork}
 use Rattle.model.specs.declared.ForkFacts.{ForkFacts}
+use Rattle.model.specs.declared.refusal.Refusal.{Refusal}
 use Rattle.files.specs.declared.Named.{Named}
-use Rattle.files.specs.declared.Named.TheVariants.{At, Refused}
 use Rattle.files.specs.declared.NamedFork.{NamedFork}
-use Rattle.files.specs.declared.NamedFork.TheVariants as variant
 
 -- an accepted image and its facts
 pub record Readable (f : VolumeFacts) (image : List ℕ) : Type 0 where
@@ -33,9 +33,9 @@ pub record Missed (image name : List ℕ) (number : ℕ) : Type 0 where
   pub fires : number ≡ or_else (bad_name name) 12 (or_else (not (any (named name) (directory image))) 13 0)
   pub some : number ≡ 0 → ⊥
 
-abbrev pub Names : List ℕ → List ℕ → Named → Type 0
-Names image name (At place e) = NamedEntry image name place e
-Names image name (Refused number) = Missed image name number
+abbrev pub Names : List ℕ → List ℕ → Result Named Refusal → Type 0
+Names image name (Ok named) = NamedEntry image name named.place named.entry
+Names image name (Err refusal) = Missed image name (number_of refusal)
 
 -- the entry of a name where neither the volume nor the file is locked
 pub record Changeable (image name : List ℕ) (place : ℕ) (e : EntryAt) : Type 0 where
@@ -55,9 +55,9 @@ pub record Barred (image name : List ℕ) (beyond : Bool) (number : ℕ) : Type 
   pub some : number ≡ 0 → ⊥
 
 -- a call that asks for no fork has no 16
-abbrev pub MayChange : List ℕ → List ℕ → Named → Type 0
-MayChange image name (At place e) = Changeable image name place e
-MayChange image name (Refused number) = Barred image name false number
+abbrev pub MayChange : List ℕ → List ℕ → Result Named Refusal → Type 0
+MayChange image name (Ok named) = Changeable image name named.place named.entry
+MayChange image name (Err refusal) = Barred image name false (number_of refusal)
 
 -- the offset is beyond the end of the fork of a name
 abbrev pub beyond_end : List ℕ → List ℕ → Fork → ℕ → Bool
@@ -70,9 +70,9 @@ pub record ChangeableFork (image name : List ℕ) (fork : Fork) (offset : ℕ) (
   pub is : g ≡ fork_of fork (bytes_at image e)
   pub within : offset ≤ g.logical
 
-abbrev pub MayChangeFork : List ℕ → List ℕ → Fork → ℕ → NamedFork → Type 0
-MayChangeFork image name fork offset (variant.At e g) = ChangeableFork image name fork offset e g
-MayChangeFork image name fork offset (variant.Refused number) = Barred image name (beyond_end image name fork offset) number
+abbrev pub MayChangeFork : List ℕ → List ℕ → Fork → ℕ → Result NamedFork Refusal → Type 0
+MayChangeFork image name fork offset (Ok named) = ChangeableFork image name fork offset named.entry named.facts
+MayChangeFork image name fork offset (Err refusal) = Barred image name (beyond_end image name fork offset) (number_of refusal)
 
 -- e is the entry of a name in an accepted image, whose facts are f
 pub record FileAt (f : VolumeFacts) (image : List ℕ) (e : EntryAt) : Type 0 where

@@ -2,6 +2,8 @@
 // answers of the calls, and the zeros that a refusal gives.
 #![tactic(auto)]
 
+ghost use Rattle.std.specs.Prelude.{◌≡◌};
+
 mod answers;
 mod locks;
 mod names;
@@ -10,67 +12,50 @@ mod searching;
 pub use answers::{no_entry, no_facts};
 use directory::EntryAt;
 pub use locks::is_locked;
-use model::{AllocationBlock, DirectoryEntry, ForkFacts, VolumeFacts};
+use model::{DirectoryEntry, ForkFacts, Refusal};
 pub use names::{bad_name, too_long};
 pub use searching::{changeable, changeable_fork, first_entry, lookup};
 
-// What a name given to a call names: an entry with its place in directory order, or the number of the refusal.
+// What a name given to a call names: an entry, with its place in directory order.
 #[derive(Clone, Copy)]
-pub enum Named {
-    At(usize, EntryAt),
-    Refused(u8),
+pub struct Named {
+    pub place: usize,
+    pub entry: EntryAt,
 }
 
-// What a name and a fork given to a call name: the file's entry with the fork's facts, or the number of the refusal.
+// What a name and a fork given to a call name: the file's entry with the fork's facts.
 #[derive(Clone, Copy)]
-pub enum NamedFork {
-    At(EntryAt, ForkFacts),
-    Refused(u8),
+pub struct NamedFork {
+    pub entry: EntryAt,
+    pub facts: ForkFacts,
 }
 
-// Each answer begins with its number: 0, or that of the refusal, and then all else is zero, but for the count beside quick find's 13.
-#[repr(C)]
+// What find tells: a file's place in directory order and its entry.
 #[derive(Clone, Copy)]
-pub struct CheckAnswer {
-    pub number: u8,
-    pub facts: VolumeFacts,
-}
-
-#[repr(C)]
-#[derive(Clone, Copy)]
-pub struct EntryAnswer {
-    pub number: u8,
-    pub entry: DirectoryEntry,
-}
-
-#[repr(C)]
-#[derive(Clone, Copy)]
-pub struct FindAnswer {
-    pub number: u8,
+pub struct FoundFile {
     pub place: u64,
     pub entry: DirectoryEntry,
 }
 
-#[repr(C)]
+// What quick find tells: the place among the entries that it read, the entry, and the number of directory blocks looked at.
 #[derive(Clone, Copy)]
-pub struct BlockAnswer {
-    pub number: u8,
-    pub block: AllocationBlock,
-}
-
-#[repr(C)]
-#[derive(Clone, Copy)]
-pub struct ReadAnswer {
-    pub number: u8,
-    pub count: usize,
-}
-
-#[repr(C)]
-#[derive(Clone, Copy)]
-pub struct QuickFindAnswer {
-    pub number: u8,
+pub struct QuickFound {
     pub place: u64,
     pub entry: DirectoryEntry,
-    // Directory blocks looked at.
     pub looked: u16,
+}
+
+// A refusal of quick find, with the number of directory blocks looked at: 0 but beside 13.
+#[derive(Clone, Copy)]
+pub struct QuickRefusal {
+    pub refusal: Refusal,
+    pub looked: u16,
+}
+
+impl From<Refusal> for QuickRefusal {
+    ghost from_gives = { λ r q. q ≡ record { refusal = r; looked = 0 } };
+
+    fn from(refusal: Refusal) -> QuickRefusal {
+        QuickRefusal { refusal, looked: 0 }
+    }
 }

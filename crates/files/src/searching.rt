@@ -8,7 +8,7 @@ use crate::locks::{file_locked, is_locked};
 use crate::names::bad_name;
 use crate::{Named, NamedFork};
 use directory::{Cursor, Found};
-use model::{Fork, VolumeFacts};
+use model::{Fork, Refusal, VolumeFacts};
 
 // At the first entry of the volume's directory.
 pub fn first_entry(f: VolumeFacts) -> Cursor
@@ -20,36 +20,32 @@ pub fn first_entry(f: VolumeFacts) -> Cursor
 }
 
 // The entry that the name names.
-pub fn lookup(image: &[u8], f: VolumeFacts, name: &[u8]) -> Named
+pub fn lookup(image: &[u8], f: VolumeFacts, name: &[u8]) -> Result<Named, Refusal>
     requires { Readable f image.now }
     ensures { Names image.now name.now result }
 {
     if bad_name(name) {
-        return Named::Refused(12);
+        return Err(Refusal::BadName);
     }
     match directory::locate(image, first_entry(f), name) {
-        Found::At(place, e) => Named::At(place, e),
-        Found::Nothing => Named::Refused(13),
+        Found::At(place, entry) => Ok(Named { place, entry }),
+        Found::Nothing => Err(Refusal::NotFound),
     }
 }
 
 // The entry of the name for a call that changes the file.
-pub fn changeable(image: &[u8], f: VolumeFacts, name: &[u8]) -> Named
+pub fn changeable(image: &[u8], f: VolumeFacts, name: &[u8]) -> Result<Named, Refusal>
     requires { Readable f image.now }
     ensures { MayChange image.now name.now result }
 {
     if is_locked(f) {
-        return Named::Refused(11);
+        return Err(Refusal::VolumeLocked);
     }
-    match lookup(image, f, name) {
-        Named::Refused(number) => Named::Refused(number),
-        Named::At(place, e) => {
-            if file_locked(image, e) {
-                return Named::Refused(15);
-            }
-            Named::At(place, e)
-        }
+    let named = lookup(image, f, name)?;
+    if file_locked(image, named.entry) {
+        return Err(Refusal::FileLocked);
     }
+    Ok(named)
 }
 
 // The fork of the name for a call that changes it from the offset on.
@@ -59,18 +55,14 @@ pub fn changeable_fork(
     name: &[u8],
     fork: Fork,
     offset: u64,
-) -> NamedFork
+) -> Result<NamedFork, Refusal>
     requires { Readable f image.now }
     ensures { MayChangeFork image.now name.now fork offset result }
 {
-    match changeable(image, f, name) {
-        Named::Refused(number) => NamedFork::Refused(number),
-        Named::At(_, e) => {
-            let g = directory::read_fork(image, e, fork);
-            if (g.logical as u64) < offset {
-                return NamedFork::Refused(16);
-            }
-            NamedFork::At(e, g)
-        }
+    let entry = changeable(image, f, name)?.entry;
+    let facts = directory::read_fork(image, entry, fork);
+    if (facts.logical as u64) < offset {
+        return Err(Refusal::BeyondEnd);
     }
+    Ok(NamedFork { entry, facts })
 }

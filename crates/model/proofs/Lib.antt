@@ -9,3 +9,4 @@ pub mod Threes
 pub mod Check
 pub mod Container
 pub mod Cases
+pub mod Refusals

@@ -1,5 +1,5 @@
 -- Whichever public call is made, it is an event of the claim on every run.
-use Rattle.std.specs.Prelude.{ℕ, ◌≡◌, List, length, take, drop}
+use Rattle.std.specs.Prelude.{ℕ, ◌≡◌, List, length, take, drop, Result, Ok, Err}
 use Rattle.model.specs.Check.{Accepted}
 use Rattle.model.specs.Calls.{Call, Answer, lent, Does}
 use Rattle.model.specs.Calls.Call.{check, entry, find, block, read, create, write, cut, delete, wrap, rename, quick_find}
@@ -7,12 +7,14 @@ use Rattle.history.specs.History.{History, Agrees, InStep}
 use Rattle.model.specs.Facts.{no_facts}
 use Rattle.model.specs.Directory.{no_entry}
 use Rattle.model.specs.declared.Fork.{Fork}
-use Rattle.files.specs.declared.CheckAnswer.{CheckAnswer}
-use Rattle.files.specs.declared.EntryAnswer.{EntryAnswer}
-use Rattle.files.specs.declared.FindAnswer.{FindAnswer}
-use Rattle.files.specs.declared.BlockAnswer.{BlockAnswer}
-use Rattle.files.specs.declared.ReadAnswer.{ReadAnswer}
-use Rattle.files.specs.declared.QuickFindAnswer.{QuickFindAnswer}
+use Rattle.model.specs.Refusals.{number_of, done_number}
+use Rattle.model.specs.declared.AllocationBlock.{AllocationBlock}
+use Rattle.model.specs.declared.VolumeFacts.{VolumeFacts}
+use Rattle.model.specs.declared.DirectoryEntry.{DirectoryEntry}
+use Rattle.model.specs.declared.refusal.Refusal.{Refusal}
+use Rattle.files.specs.declared.FoundFile.{FoundFile}
+use Rattle.files.specs.declared.QuickFound.{QuickFound}
+use Rattle.files.specs.declared.QuickRefusal.{QuickRefusal}
 use Rattle.volume.specs.declared.Outcome.{Outcome}
 use Rattle.volume.specs.declared.Wanted.{Wanted}
 use Rattle.volume.specs.declared.Wanted.TheVariants.{Check, Entry, Find, Block, Read, Create, Write, Cut, Delete, Wrap, Rename, QuickFind}
@@ -48,24 +50,34 @@ told_outcome o buffer = record {
 abbrev pub from_number : ℕ → Outcome
 from_number number = record { number = number; facts = no_facts; place = 0; entry = no_entry; block = record { 0 = 0 }; count = 0 }
 
-abbrev pub from_check : CheckAnswer → Outcome
-from_check r = record { number = r.number; facts = r.facts; place = 0; entry = no_entry; block = record { 0 = 0 }; count = 0 }
+abbrev pub from_done : Result Unit Refusal → Outcome
+from_done r = from_number (done_number r)
 
-abbrev pub from_entry : EntryAnswer → Outcome
-from_entry r = record { number = r.number; facts = no_facts; place = 0; entry = r.entry; block = record { 0 = 0 }; count = 0 }
+abbrev pub from_check : Result VolumeFacts Refusal → Outcome
+from_check (Ok facts) = record { number = 0; facts = facts; place = 0; entry = no_entry; block = record { 0 = 0 }; count = 0 }
+from_check (Err refusal) = from_number (number_of refusal)
 
-abbrev pub from_find : FindAnswer → Outcome
-from_find r = record { number = r.number; facts = no_facts; place = r.place; entry = r.entry; block = record { 0 = 0 }; count = 0 }
+abbrev pub from_entry : Result DirectoryEntry Refusal → Outcome
+from_entry (Ok e) = record { number = 0; facts = no_facts; place = 0; entry = e; block = record { 0 = 0 }; count = 0 }
+from_entry (Err refusal) = from_number (number_of refusal)
 
-abbrev pub from_block : BlockAnswer → Outcome
-from_block r = record { number = r.number; facts = no_facts; place = 0; entry = no_entry; block = r.block; count = 0 }
+abbrev pub from_find : Result FoundFile Refusal → Outcome
+from_find (Ok found) = record { number = 0; facts = no_facts; place = found.place; entry = found.entry; block = record { 0 = 0 }; count = 0 }
+from_find (Err refusal) = from_number (number_of refusal)
 
-abbrev pub from_read : ReadAnswer → Outcome
-from_read r = record { number = r.number; facts = no_facts; place = 0; entry = no_entry; block = record { 0 = 0 }; count = r.count }
+abbrev pub from_block : Result AllocationBlock Refusal → Outcome
+from_block (Ok b) = record { number = 0; facts = no_facts; place = 0; entry = no_entry; block = b; count = 0 }
+from_block (Err refusal) = from_number (number_of refusal)
 
-abbrev pub from_quick_find : QuickFindAnswer → Outcome
-from_quick_find r =
-    record { number = r.number; facts = no_facts; place = r.place; entry = r.entry; block = record { 0 = 0 }; count = r.looked }
+abbrev pub from_read : Result ℕ Refusal → Outcome
+from_read (Ok count) = record { number = 0; facts = no_facts; place = 0; entry = no_entry; block = record { 0 = 0 }; count = count }
+from_read (Err refusal) = from_number (number_of refusal)
+
+abbrev pub from_quick_find : Result QuickFound QuickRefusal → Outcome
+from_quick_find (Ok found) =
+    record { number = 0; facts = no_facts; place = found.place; entry = found.entry; block = record { 0 = 0 }; count = found.looked }
+from_quick_find (Err refused) =
+    record { number = number_of refused.refusal; facts = no_facts; place = 0; entry = no_entry; block = record { 0 = 0 }; count = refused.looked }
 
 -- The call was made on the image. It gave back o, left the buffer `after` where `buffer` came, and left this image.
 pub record Happens (call : Call) (image : List ℕ) (o : Outcome) (buffer after left : List ℕ) : Type 0 where

@@ -1,16 +1,14 @@
 // What any of the calls gives back, in one form.
 ghost use Rattle.std.specs.Prelude.{◌≡◌};
-ghost use Rattle.volume.specs.Happens.{from_number, from_check, from_entry, from_find, from_block, from_read, from_quick_find};
+ghost use Rattle.model.specs.Refusals.{number_of};
+ghost use Rattle.volume.specs.Happens.{from_number, from_check, from_entry, from_find, from_block, from_read, from_done, from_quick_find};
 
 use crate::Outcome;
-use files::{
-    BlockAnswer, CheckAnswer, EntryAnswer, FindAnswer, QuickFindAnswer, ReadAnswer, no_entry,
-    no_facts,
-};
-use model::AllocationBlock;
+use files::{FoundFile, QuickFound, QuickRefusal, no_entry, no_facts};
+use model::{AllocationBlock, DirectoryEntry, Refusal, VolumeFacts, done_number};
 
 // A number alone.
-pub fn of_number(number: u8) -> Outcome
+fn of_number(number: u8) -> Outcome
     ensures { result ≡ from_number number }
 {
     Outcome {
@@ -23,59 +21,112 @@ pub fn of_number(number: u8) -> Outcome
     }
 }
 
-pub fn of_check(r: CheckAnswer) -> Outcome
-    ensures { result ≡ from_check r }
-{
-    let mut o = of_number(r.number);
-    let facts = r.facts;
-    o.facts = facts;
-    o
+impl From<Refusal> for Outcome {
+    ghost from_gives = { λ r o. o ≡ from_number (number_of r) };
+
+    fn from(refusal: Refusal) -> Outcome {
+        of_number(refusal.number())
+    }
 }
 
-pub fn of_entry(r: EntryAnswer) -> Outcome
-    ensures { result ≡ from_entry r }
-{
-    let mut o = of_number(r.number);
-    let entry = r.entry;
-    o.entry = entry;
-    o
+impl From<Result<(), Refusal>> for Outcome {
+    ghost from_gives = { λ r o. o ≡ from_done r };
+
+    fn from(done: Result<(), Refusal>) -> Outcome {
+        of_number(done_number(done))
+    }
 }
 
-pub fn of_find(r: FindAnswer) -> Outcome
-    ensures { result ≡ from_find r }
-{
-    let mut o = of_number(r.number);
-    o.place = r.place;
-    let entry = r.entry;
-    o.entry = entry;
-    o
+impl From<Result<VolumeFacts, Refusal>> for Outcome {
+    ghost from_gives = { λ r o. o ≡ from_check r };
+
+    fn from(answer: Result<VolumeFacts, Refusal>) -> Outcome {
+        match answer {
+            Ok(facts) => Outcome {
+                facts,
+                ..of_number(0)
+            },
+            Err(refusal) => Outcome::from(refusal),
+        }
+    }
 }
 
-pub fn of_block(r: BlockAnswer) -> Outcome
-    ensures { result ≡ from_block r }
-{
-    let mut o = of_number(r.number);
-    let block = r.block;
-    o.block = block;
-    o
+impl From<Result<DirectoryEntry, Refusal>> for Outcome {
+    ghost from_gives = { λ r o. o ≡ from_entry r };
+
+    fn from(answer: Result<DirectoryEntry, Refusal>) -> Outcome {
+        match answer {
+            Ok(entry) => Outcome {
+                entry,
+                ..of_number(0)
+            },
+            Err(refusal) => Outcome::from(refusal),
+        }
+    }
 }
 
-pub fn of_read(r: ReadAnswer) -> Outcome
-    ensures { result ≡ from_read r }
-{
-    let mut o = of_number(r.number);
-    o.count = r.count;
-    o
+impl From<Result<FoundFile, Refusal>> for Outcome {
+    ghost from_gives = { λ r o. o ≡ from_find r };
+
+    fn from(answer: Result<FoundFile, Refusal>) -> Outcome {
+        match answer {
+            Ok(found) => Outcome {
+                place: found.place,
+                entry: found.entry,
+                ..of_number(0)
+            },
+            Err(refusal) => Outcome::from(refusal),
+        }
+    }
 }
 
-pub fn of_quick_find(r: QuickFindAnswer) -> Outcome
-    ensures { result ≡ from_quick_find r }
-{
-    let mut o = of_number(r.number);
-    let place = r.place;
-    let entry = r.entry;
-    o.place = place;
-    o.entry = entry;
-    o.count = r.looked as usize;
-    o
+impl From<Result<AllocationBlock, Refusal>> for Outcome {
+    ghost from_gives = { λ r o. o ≡ from_block r };
+
+    fn from(answer: Result<AllocationBlock, Refusal>) -> Outcome {
+        match answer {
+            Ok(block) => Outcome {
+                block,
+                ..of_number(0)
+            },
+            Err(refusal) => Outcome::from(refusal),
+        }
+    }
+}
+
+impl From<Result<usize, Refusal>> for Outcome {
+    ghost from_gives = { λ r o. o ≡ from_read r };
+
+    fn from(answer: Result<usize, Refusal>) -> Outcome {
+        match answer {
+            Ok(count) => Outcome {
+                count,
+                ..of_number(0)
+            },
+            Err(refusal) => Outcome::from(refusal),
+        }
+    }
+}
+
+impl From<Result<QuickFound, QuickRefusal>> for Outcome {
+    ghost from_gives = { λ r o. o ≡ from_quick_find r };
+
+    fn from(answer: Result<QuickFound, QuickRefusal>) -> Outcome {
+        match answer {
+            Ok(QuickFound {
+                place,
+                entry,
+                looked,
+            }) => Outcome {
+                place,
+                entry,
+                count: looked as usize,
+                ..of_number(0)
+            },
+            Err(refused) => Outcome {
+                count: refused.looked as usize,
+                ..Outcome::from(refused.refusal)
+            },
+        }
+    }
 }

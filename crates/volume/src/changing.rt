@@ -8,18 +8,15 @@ use call_cut::serve_cut;
 use call_delete::serve_delete;
 use call_rename::serve_rename;
 use call_write::serve_write;
-use model::Fork;
+use model::{Fork, Refusal};
 
 // Puts in an empty file.
-pub fn create(image: &mut [u8], name: &[u8], finder: &[u8; 16], created: u32, changed: u32) -> u8
+pub fn create(image: &mut [u8], name: &[u8], finder: &[u8; 16], created: u32, changed: u32) -> Result<(), Refusal>
     ensures { Does (Call.create name.now finder.now created changed) image.old (told_number result) image.new }
 {
     call_create::whole(finder);
-    let checked = check(image);
-    if checked.number != 0 {
-        return checked.number;
-    }
-    serve_create(image, checked.facts, name, finder, created, changed)
+    let facts = check(image)?;
+    serve_create(image, facts, name, finder, created, changed)
 }
 
 // Stores bytes in a fork from an offset on; the fork grows where they reach behind its end.
@@ -30,45 +27,33 @@ pub fn write(
     offset: u64,
     bytes: &[u8],
     changed: u32,
-) -> u8
+) -> Result<(), Refusal>
     ensures { Does (Call.write name.now fork offset bytes.now changed) image.old (told_number result) image.new }
 {
-    let checked = check(image);
-    if checked.number != 0 {
-        return checked.number;
-    }
-    serve_write(image, checked.facts, name, fork, offset, bytes, changed)
+    let facts = check(image)?;
+    serve_write(image, facts, name, fork, offset, bytes, changed)
 }
 
 // Cuts a fork to its first bytes, as many as the size says.
-pub fn cut(image: &mut [u8], name: &[u8], fork: Fork, size: u64, changed: u32) -> u8
+pub fn cut(image: &mut [u8], name: &[u8], fork: Fork, size: u64, changed: u32) -> Result<(), Refusal>
     ensures { Does (Call.cut name.now fork size changed) image.old (told_number result) image.new }
 {
-    let checked = check(image);
-    if checked.number != 0 {
-        return checked.number;
-    }
-    serve_cut(image, checked.facts, name, fork, size, changed)
+    let facts = check(image)?;
+    serve_cut(image, facts, name, fork, size, changed)
 }
 
 // Takes a file out.
-pub fn delete(image: &mut [u8], name: &[u8]) -> u8
+pub fn delete(image: &mut [u8], name: &[u8]) -> Result<(), Refusal>
     ensures { Does (Call.delete name.now) image.old (told_number result) image.new }
 {
-    let checked = check(image);
-    if checked.number != 0 {
-        return checked.number;
-    }
-    serve_delete(image, checked.facts, name)
+    let facts = check(image)?;
+    serve_delete(image, facts, name)
 }
 
 // Gives a file another name and change date.
-pub fn rename(image: &mut [u8], name: &[u8], new: &[u8], changed: u32) -> u8
+pub fn rename(image: &mut [u8], name: &[u8], new: &[u8], changed: u32) -> Result<(), Refusal>
     ensures { Does (Call.rename name.now new.now changed) image.old (told_number result) image.new }
 {
-    let checked = check(image);
-    if checked.number != 0 {
-        return checked.number;
-    }
-    serve_rename(image, checked.facts, name, new, changed)
+    let facts = check(image)?;
+    serve_rename(image, facts, name, new, changed)
 }

@@ -10,7 +10,6 @@ mod quick;
 mod reading;
 mod wrapping;
 
-pub use answer_of::{of_block, of_check, of_entry, of_find, of_number, of_quick_find, of_read};
 pub use changing::{create, cut, delete, rename, write};
 pub use checking::check;
 pub use making::make_call;

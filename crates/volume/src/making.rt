@@ -1,7 +1,6 @@
 // Whichever call is made, it is an event of the claim on every run.
 ghost use Rattle.volume.specs.Happens.{call_of, Happens};
 
-use crate::answer_of::{of_block, of_check, of_entry, of_find, of_number, of_quick_find, of_read};
 use crate::changing::{create, cut, delete, rename, write};
 use crate::checking::check;
 use crate::quick::quick_find;
@@ -28,17 +27,17 @@ pub fn make_call(
     ensures { Happens (call_of wanted name.now fork place buffer.old finder.now bytes.now created changed format) image.old result buffer.old buffer.new image.new }
 {
     match wanted {
-        Wanted::Check => of_check(check(image)),
-        Wanted::Entry => of_entry(entry(image, place)),
-        Wanted::Find => of_find(find(image, name)),
-        Wanted::Block => of_block(block(image, name, fork, place)),
-        Wanted::Read => of_read(read(image, name, fork, place, buffer)),
-        Wanted::Create => of_number(create(image, name, finder, created, changed)),
-        Wanted::Write => of_number(write(image, name, fork, place, bytes, changed)),
-        Wanted::Cut => of_number(cut(image, name, fork, place, changed)),
-        Wanted::Delete => of_number(delete(image, name)),
-        Wanted::Wrap => of_number(wrap(image, name, format, buffer)),
-        Wanted::Rename => of_number(rename(image, name, bytes, changed)),
-        Wanted::QuickFind => of_quick_find(quick_find(image, name)),
+        Wanted::Check => Outcome::from(check(image)),
+        Wanted::Entry => Outcome::from(entry(image, place)),
+        Wanted::Find => Outcome::from(find(image, name)),
+        Wanted::Block => Outcome::from(block(image, name, fork, place)),
+        Wanted::Read => Outcome::from(read(image, name, fork, place, buffer)),
+        Wanted::Create => Outcome::from(create(image, name, finder, created, changed)),
+        Wanted::Write => Outcome::from(write(image, name, fork, place, bytes, changed)),
+        Wanted::Cut => Outcome::from(cut(image, name, fork, place, changed)),
+        Wanted::Delete => Outcome::from(delete(image, name)),
+        Wanted::Wrap => Outcome::from(wrap(image, name, format, buffer)),
+        Wanted::Rename => Outcome::from(rename(image, name, bytes, changed)),
+        Wanted::QuickFind => Outcome::from(quick_find(image, name)),
     }
 }

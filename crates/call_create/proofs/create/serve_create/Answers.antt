@@ -10,7 +10,7 @@ use Rattle.model.specs.Calls.{Fits, bad_name}
 use Rattle.model.specs.Calls.Call.{create}
 use Rattle.call_create.specs.Adding.{Adds}
 use Rattle.files.proofs.Octets.{octets}
-use Rattle.files.proofs.Lookups.{some_block, first_passes, names_file, names_none}
+use Rattle.files.proofs.Lookups.{some_block, first_passes}
 use Rattle.entries.proofs.Rooming.{room_at, room_none}
 use Rattle.call_create.proofs.Creates.{adds, Short, Fresh, fresh, fresh_title}
 use Rattle.call_create.proofs.Creates.{create_locked, create_untitled, create_long, create_exists, create_last, create_full, create_served}
@@ -72,7 +72,7 @@ returns-then-f-eq-LAST_NUMBER c =
     let unlocked : is_locked c.args.f ≡ false = sym c.is_locked.ensures ∙ c.if-is_locked.false in
     let good : bad_name c.args.name.now ≡ false = sym c.bad_name.ensures ∙ c.if-bad_name.false in
     let short : Short c.args.name.now = record { good = good; short = sym c.too_long.ensures ∙ c.if-too_long.false } in
-    let new : Fresh c.args.image.now c.args.name.now = fresh short (names_none c.lookup.ensures c.in-Refused.is) in
+    let new : Fresh c.args.image.now c.args.name.now = fresh short c.lookup.result c.lookup.ensures (sym c.is_ok.ensures.value ∙ c.if-is_ok.false) in
     create_last c.requires image_octets fits unlocked new c.if-f-eq-LAST_NUMBER.true
 
 pub first_entry-requires : goal.first_entry-requires
@@ -82,7 +82,7 @@ pub entry_size-requires : goal.entry_size-requires
 entry_size-requires c =
     let good : bad_name c.args.name.now ≡ false = sym c.bad_name.ensures ∙ c.if-bad_name.false in
     let short : Short c.args.name.now = record { good = good; short = sym c.too_long.ensures ∙ c.if-too_long.false } in
-    let new : Fresh c.args.image.now c.args.name.now = fresh short (names_none c.lookup.ensures c.in-Refused.is) in
+    let new : Fresh c.args.image.now c.args.name.now = fresh short c.lookup.result c.lookup.ensures (sym c.is_ok.ensures.value ∙ c.if-is_ok.false) in
     (fresh_title new).short
 
 pub find_room-requires : goal.find_room-requires
@@ -90,7 +90,7 @@ unfolding padded
 find_room-requires c =
     let good : bad_name c.args.name.now ≡ false = sym c.bad_name.ensures ∙ c.if-bad_name.false in
     let short : Short c.args.name.now = record { good = good; short = sym c.too_long.ensures ∙ c.if-too_long.false } in
-    let new : Fresh c.args.image.now c.args.name.now = fresh short (names_none c.lookup.ensures c.in-Refused.is) in
+    let new : Fresh c.args.image.now c.args.name.now = fresh short c.lookup.result c.lookup.ensures (sym c.is_ok.ensures.value ∙ c.if-is_ok.false) in
     record {
       passes = first_passes c.requires c.first_entry.ensures;
       at_value = c.first_entry.ensures.at;
@@ -101,21 +101,21 @@ pub add_file-requires : goal.add_file-requires
 add_file-requires c =
     let good : bad_name c.args.name.now ≡ false = sym c.bad_name.ensures ∙ c.if-bad_name.false in
     let short : Short c.args.name.now = record { good = good; short = sym c.too_long.ensures ∙ c.if-too_long.false } in
-    let new : Fresh c.args.image.now c.args.name.now = fresh short (names_none c.lookup.ensures c.in-Refused.is) in
+    let new : Fresh c.args.image.now c.args.name.now = fresh short c.lookup.result c.lookup.ensures (sym c.is_ok.ensures.value ∙ c.if-is_ok.false) in
     let adds_there : let a = c.args in
-    Adds a.f a.image.now (length a.name.now) c.in-At-find_room.base c.in-At-find_room.end = let title = fresh_title new in
+    Adds a.f a.image.now (length a.name.now) c.in-At.base c.in-At.end = let title = fresh_title new in
     adds c.args.f c.args.image.now c.first_entry.result c.first_entry.ensures (length c.args.name.now)
     c.entry_size.result c.entry_size.ensures _ _
-    (room_at _ _ _ _ c.find_room.result c.find_room.ensures _ _ c.in-At-find_room.is) title.some title.short
+    (room_at _ _ _ _ c.find_room.result c.find_room.ensures _ _ c.in-At.is) title.some title.short
     (omega (arith, c.struct_known-1.given, c.if-f-eq-LAST_NUMBER.false)) in
     record {
       readable = c.requires;
       adds = adds_there;
     }
 
-pub returns-in-At : goal.returns-in-At
+pub returns-then-is_ok : goal.returns-then-is_ok
 unfolding Fits
-returns-in-At c =
+returns-then-is_ok c =
     let image_octets : Bytes c.args.image.now = octets _ c.slice_known-1.given in
     let fits : Fits (create c.args.name.now c.args.finder.now c.args.created c.args.changed) = (
       octets _ c.type_inv.name,
@@ -127,7 +127,7 @@ returns-in-At c =
     let unlocked : is_locked c.args.f ≡ false = sym c.is_locked.ensures ∙ c.if-is_locked.false in
     let good : bad_name c.args.name.now ≡ false = sym c.bad_name.ensures ∙ c.if-bad_name.false in
     let short : Short c.args.name.now = record { good = good; short = sym c.too_long.ensures ∙ c.if-too_long.false } in
-    create_exists c.requires image_octets fits unlocked short (names_file c.lookup.ensures c.in-At.is)
+    create_exists c.requires image_octets fits unlocked short c.lookup.result c.lookup.ensures (sym c.is_ok.ensures.value ∙ c.if-is_ok.true)
 
 pub returns-in-Nothing : goal.returns-in-Nothing
 unfolding Fits
@@ -143,14 +143,14 @@ returns-in-Nothing c =
     let unlocked : is_locked c.args.f ≡ false = sym c.is_locked.ensures ∙ c.if-is_locked.false in
     let good : bad_name c.args.name.now ≡ false = sym c.bad_name.ensures ∙ c.if-bad_name.false in
     let short : Short c.args.name.now = record { good = good; short = sym c.too_long.ensures ∙ c.if-too_long.false } in
-    let new : Fresh c.args.image.now c.args.name.now = fresh short (names_none c.lookup.ensures c.in-Refused.is) in
+    let new : Fresh c.args.image.now c.args.name.now = fresh short c.lookup.result c.lookup.ensures (sym c.is_ok.ensures.value ∙ c.if-is_ok.false) in
     create_full c.requires image_octets fits unlocked new c.if-f-eq-LAST_NUMBER.false
     c.first_entry.ensures c.entry_size.ensures
     (room_none _ _ _ _ c.find_room.result c.find_room.ensures c.in-Nothing.is)
 
-pub returns-in-At-find_room : goal.returns-in-At-find_room
+pub returns-in-At : goal.returns-in-At
 unfolding Fits
-returns-in-At-find_room c =
+returns-in-At c =
     let image_octets : Bytes c.args.image.now = octets _ c.slice_known-1.given in
     let fits : Fits (create c.args.name.now c.args.finder.now c.args.created c.args.changed) = (
       octets _ c.type_inv.name,
@@ -162,12 +162,12 @@ returns-in-At-find_room c =
     let unlocked : is_locked c.args.f ≡ false = sym c.is_locked.ensures ∙ c.if-is_locked.false in
     let good : bad_name c.args.name.now ≡ false = sym c.bad_name.ensures ∙ c.if-bad_name.false in
     let short : Short c.args.name.now = record { good = good; short = sym c.too_long.ensures ∙ c.if-too_long.false } in
-    let new : Fresh c.args.image.now c.args.name.now = fresh short (names_none c.lookup.ensures c.in-Refused.is) in
+    let new : Fresh c.args.image.now c.args.name.now = fresh short c.lookup.result c.lookup.ensures (sym c.is_ok.ensures.value ∙ c.if-is_ok.false) in
     let adds_there : let a = c.args in
-    Adds a.f a.image.now (length a.name.now) c.in-At-find_room.base c.in-At-find_room.end = let title = fresh_title new in
+    Adds a.f a.image.now (length a.name.now) c.in-At.base c.in-At.end = let title = fresh_title new in
     adds c.args.f c.args.image.now c.first_entry.result c.first_entry.ensures (length c.args.name.now)
     c.entry_size.result c.entry_size.ensures _ _
-    (room_at _ _ _ _ c.find_room.result c.find_room.ensures _ _ c.in-At-find_room.is) title.some title.short
+    (room_at _ _ _ _ c.find_room.result c.find_room.ensures _ _ c.in-At.is) title.some title.short
     (omega (arith, c.struct_known-1.given, c.if-f-eq-LAST_NUMBER.false)) in
     create_served c.requires image_octets fits unlocked new c.if-f-eq-LAST_NUMBER.false
     adds_there c.add_file.ensures

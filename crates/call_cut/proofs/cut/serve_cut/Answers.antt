@@ -1,42 +1,36 @@
 -- `serve_cut` meets its contract. Assumes nothing.
+use Rattle.std.proofs.lemmas.Result.{err_from_is_err_and}
 use native.Mathlib.Omega.{arith}
 use Rattle.model.specs.Bytes.{Bytes}
 use Rattle.model.specs.Calls.{Fits}
 use Rattle.model.specs.Calls.Call.{cut}
-use Rattle.files.specs.Lookup.{ChangeableFork}
 use Rattle.files.proofs.Octets.{octets}
-use Rattle.files.proofs.Refusing.{cut_changing, changed_fork_lem, changed_no_fork, changed_fork_at, refused}
+use Rattle.files.proofs.Refusing.{cut_changing, changed_fork_at, refused}
 use Rattle.call_cut.proofs.Cuts.{cut_fits, cut_served}
 use Rattle.call_cut.proofs.cut.serve_cut.Goals as goal
 
 pub overflow_cast-size : goal.overflow_cast-size
 overflow_cast-size c =
-    let fork : let a = c.args in
-    ChangeableFork a.image.now a.name.now a.fork a.size c.in-At.e c.in-At.g = changed_fork_lem c.changeable_fork.ensures c.in-At.is in
-    omega (arith, fork.within)
+    omega (arith, c.in_ok-named.ensures.within)
 
 pub shorten_fork-requires : goal.shorten_fork-requires
 shorten_fork-requires c =
-    let fork : let a = c.args in
-    ChangeableFork a.image.now a.name.now a.fork a.size c.in-At.e c.in-At.g = changed_fork_lem c.changeable_fork.ensures c.in-At.is in
     record {
-      fork_at = changed_fork_at c.requires fork;
-      size_le_logical = fork.within;
+      fork_at = changed_fork_at c.requires c.in_ok-named.ensures;
+      size_le_logical = c.in_ok-named.ensures.within;
     }
 
-pub returns-in-Refused : goal.returns-in-Refused
-returns-in-Refused c =
+pub returns-in_err-named : goal.returns-in_err-named
+returns-in_err-named c =
     let image_bytes : Bytes c.args.image.now = octets _ c.slice_known-1.given in
     let fits : Fits (cut c.args.name.now c.args.fork c.args.size c.args.changed) = cut_fits c.args.name.now c.args.fork c.args.size c.args.changed
     (octets _ c.type_inv.name) (omega arith) (omega arith) in
-    let a = c.args in
-    refused c.requires image_bytes cut_changing fits (changed_no_fork a.fork a.size c.changeable_fork.ensures c.in-Refused.is)
+    let p = err_from_is_err_and c.from_residual.result c.from_residual.ensures.1 in
+    rw (p.1, p.2) (refused c.requires image_bytes cut_changing fits c.in_err-named.ensures)
 
-pub returns-in-At : goal.returns-in-At
-returns-in-At c =
+pub returns : goal.returns
+returns c =
     let image_bytes : Bytes c.args.image.now = octets _ c.slice_known-1.given in
     let fits : Fits (cut c.args.name.now c.args.fork c.args.size c.args.changed) = cut_fits c.args.name.now c.args.fork c.args.size c.args.changed
     (octets _ c.type_inv.name) (omega arith) (omega arith) in
-    let fork : let a = c.args in
-    ChangeableFork a.image.now a.name.now a.fork a.size c.in-At.e c.in-At.g = changed_fork_lem c.changeable_fork.ensures c.in-At.is in
-    cut_served c.requires image_bytes fork fits c.shorten_fork.ensures
+    cut_served c.requires image_bytes c.in_ok-named.ensures fits c.shorten_fork.ensures

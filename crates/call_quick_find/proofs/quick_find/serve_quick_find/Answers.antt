@@ -1,5 +1,6 @@
 -- `serve_quick_find` meets its contract. Assumes nothing.
-use mathlib.Core.Path.{◌≡◌, sym, ◌∙◌}
+use Rattle.std.proofs.Common.{Err}
+use mathlib.Core.Path.{◌≡◌, refl, sym, ap, ◌∙◌}
 use mathlib.Core.Bool.{false}
 use native.Mathlib.Omega.{arith}
 use Rattle.model.specs.Bytes.{Bytes}
@@ -8,6 +9,7 @@ use Rattle.model.specs.Directory.{directory_blocks}
 use Rattle.model.specs.Quick.{quick_listing, looked_at}
 use Rattle.model.specs.Calls.{bad_name}
 use Rattle.directory.specs.Search.{FirstNamed}
+use Rattle.files.specs.Told.{told_quick_find}
 use Rattle.files.proofs.Octets.{octets}
 use Rattle.call_quick_find.proofs.Returns.{found_at, found_none, blocks_are, fits, some_block, few_looked, untitled, missed, served}
 use Rattle.call_quick_find.proofs.quick_find.serve_quick_find.Goals as goal
@@ -16,7 +18,7 @@ pub returns-then-bad_name : goal.returns-then-bad_name
 returns-then-bad_name c =
     let image_bytes : Bytes c.args.image.now = octets _ c.type_inv.image in
     let letters : Bytes c.args.name.now = octets _ c.type_inv.name in
-    untitled c.requires image_bytes letters c.refused.ensures (sym c.bad_name.ensures ∙ c.if-bad_name.true)
+    untitled c.requires image_bytes letters (ap (λ q. told_quick_find (Err q)) c.from.ensures) (sym c.bad_name.ensures ∙ c.if-bad_name.true)
 
 pub first_entry-requires : goal.first_entry-requires
 first_entry-requires c = some_block c.requires
@@ -57,4 +59,4 @@ returns-in-Nothing c =
     let letters : Bytes c.args.name.now = octets _ c.type_inv.name in
     let good : bad_name c.args.name.now ≡ false = sym c.bad_name.ensures ∙ c.if-bad_name.false in
     let none = rw (blocks_are c.requires c.first_entry.ensures) at (found_none _ _ _ c.quick_locate.ensures c.in-Nothing.is) in
-    missed c.requires image_bytes letters good c.refused-in-Nothing.ensures none
+    missed c.requires image_bytes letters good refl none

@@ -30,5 +30,5 @@ returns-in-At c =
 pub returns-in-Nothing : goal.returns-in-Nothing
 returns-in-Nothing c =
     let image_bytes : Bytes c.args.image.now = octets _ c.type_inv.image in
-    entry_refused c.requires image_bytes (omega arith) c.no_entry.ensures
+    entry_refused c.requires image_bytes (omega arith)
     (given_none c.requires c.first_entry.ensures c.args.place c.entry_at.ensures c.in-Nothing.is)

@@ -1,27 +1,18 @@
 -- `changeable_fork` meets its contract. Assumes nothing.
-use Rattle.files.specs.Lookup.{Changeable}
-use Rattle.files.proofs.Refusing.{changed_file, changed_none, barred_file, barred_16}
+use Rattle.std.proofs.lemmas.Result.{err_from_is_err_and}
+use Rattle.files.proofs.Refusing.{barred_file, barred_16}
 use Rattle.files.proofs.searching.changeable_fork.Goals as goal
 
-pub read_fork-g-requires : goal.read_fork-g-requires
-read_fork-g-requires c =
-    let file : let a = c.args in
-    Changeable a.image.now a.name.now c.in-At.field-0 c.in-At.e = changed_file c.changeable.ensures c.in-At.is in
-    (file).found.there.stands
+pub returns-in_err-entry : goal.returns-in_err-entry
+returns-in_err-entry c =
+    let p = err_from_is_err_and c.from_residual.result c.from_residual.ensures.1 in
+    rw (p.1, p.2) (barred_file c.args.fork c.args.offset c.in_err-entry.ensures)
 
-pub returns-then-g-offset : goal.returns-then-g-offset
-returns-then-g-offset c =
-    let file : let a = c.args in
-    Changeable a.image.now a.name.now c.in-At.field-0 c.in-At.e = changed_file c.changeable.ensures c.in-At.is in
-    barred_16 c.requires file c.args.fork c.args.offset c.read_fork-g.ensures c.if-g-offset.true
+pub read_fork-facts-requires : goal.read_fork-facts-requires
+read_fork-facts-requires c = c.in_ok-entry.ensures.found.there.stands
 
-pub returns-in-Refused : goal.returns-in-Refused
-returns-in-Refused c =
-    let a = c.args in
-    barred_file a.fork a.offset (changed_none c.changeable.ensures c.in-Refused.is)
+pub returns-then-facts-offset : goal.returns-then-facts-offset
+returns-then-facts-offset c = barred_16 c.requires c.in_ok-entry.ensures c.args.fork c.args.offset c.read_fork-facts.ensures c.if-facts-offset.true
 
-pub returns-else-g-offset : goal.returns-else-g-offset
-returns-else-g-offset c =
-    let file : let a = c.args in
-    Changeable a.image.now a.name.now c.in-At.field-0 c.in-At.e = changed_file c.changeable.ensures c.in-At.is in
-    record { place = _; file = file; is = c.read_fork-g.ensures; within = c.if-g-offset.false }
+pub returns : goal.returns
+returns c = record { place = _; file = c.in_ok-entry.ensures; is = c.read_fork-facts.ensures; within = c.if-facts-offset.false }

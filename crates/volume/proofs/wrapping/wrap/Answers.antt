@@ -1,8 +1,11 @@
 -- `wrap` meets its contract. Assumes nothing.
+use Rattle.std.proofs.Common.{Ok, Err}
+use Rattle.std.proofs.lemmas.Result.{err_from_is_err_and}
 use mathlib.Core.Path.{sym, ◌∙◌}
 use native.Mathlib.Omega.{arith}
 use Rattle.model.specs.Bytes.{Bytes}
 use Rattle.container.proofs.Filling.{good_lengths}
+use Rattle.model.proofs.Refusals.{number_some}
 use Rattle.files.proofs.Octets.{octets}
 use Rattle.volume.proofs.Checked.{number_is}
 use Rattle.volume.proofs.Wraps.{wrap_unfit, wrap_refused, wrap_done}
@@ -15,14 +18,15 @@ returns-then-bad_lengths c =
     let buffer_bytes : Bytes c.args.buffer.now = octets _ c.slice_known-1.given in
     wrap_unfit _ _ _ _ image_bytes name_bytes (omega arith) buffer_bytes (sym c.bad_lengths.ensures ∙ c.if-bad_lengths.true)
 
-pub returns-then-number-ne0 : goal.returns-then-number-ne0
-returns-then-number-ne0 c =
+pub returns-in_err-check : goal.returns-in_err-check
+returns-in_err-check c =
     let image_bytes : Bytes c.args.image.now = octets _ c.type_inv.image in
     let name_bytes : Bytes c.args.name.now = octets _ c.type_inv.name in
     let buffer_bytes : Bytes c.args.buffer.now = octets _ c.type_inv.buffer in
     let passes = sym c.bad_lengths.ensures ∙ c.if-bad_lengths.false in
-    wrap_refused _ _ _ _ image_bytes name_bytes (omega arith) buffer_bytes passes
-    (number_is c.check-checked.result c.check-checked.ensures) c.if-number-ne0.true
+    let p = err_from_is_err_and c.from_residual.result c.from_residual.ensures.1 in
+    rw (p.1, p.2)
+    (wrap_refused _ _ _ _ image_bytes name_bytes (omega arith) buffer_bytes passes (number_is (Err _) c.in_err-check.ensures) (number_some _))
 
 pub fill-requires : goal.fill-requires
 fill-requires c =
@@ -36,4 +40,4 @@ returns c =
     let buffer_bytes : Bytes c.args.buffer.now = octets _ c.slice_known-1.given in
     let passes = sym c.bad_lengths.ensures ∙ c.if-bad_lengths.false in
     wrap_done _ _ _ _ image_bytes name_bytes (omega arith) buffer_bytes passes
-    (sym (number_is c.check-checked.result c.check-checked.ensures) ∙ c.if-number-ne0.false) c.fill.ensures
+    (sym (number_is (Ok _) c.in_ok-check.ensures)) c.fill.ensures

@@ -1,4 +1,4 @@
--- `directory_number` meets its contract: the first of checks 6 and 7 that fires. Assumes nothing.
+-- `judge_directory` meets its contract: the first of checks 6 and 7 that fires. Assumes nothing.
 use mathlib.Core.Path.{◌≡◌, sym, ◌∙◌}
 use mathlib.Core.Bool.{false}
 use native.Mathlib.Omega.{arith}
@@ -8,7 +8,7 @@ use Rattle.model.specs.Lists.{every}
 use Rattle.model.specs.Check.{fires6, good_number}
 use Rattle.directory.specs.Cursor.{rest_of}
 use Rattle.checks.proofs.Numbers.{number_6, number_count, number_number, number_clash, number_clear}
-use Rattle.checks.proofs.verdict.directory_number.Goals as goal
+use Rattle.checks.proofs.verdict.judge_directory.Goals as goal
 
 pub returns-then-t : goal.returns-then-t
 returns-then-t c = number_6 _ _ _ (sym c.count_entries-t.ensures.six ∙ c.if-t.true)

@@ -1,7 +1,7 @@
--- `facts_number` meets its contract: the first of checks 2 to 4 that fires. Assumes nothing.
+-- `judge_facts` meets its contract: the first of checks 2 to 4 that fires. Assumes nothing.
 use mathlib.Core.Path.{sym, ◌∙◌}
 use Rattle.checks.proofs.Numbered.{number_2, number_3, number_4, number_past}
-use Rattle.checks.proofs.limits.facts_number.Goals as goal
+use Rattle.checks.proofs.limits.judge_facts.Goals as goal
 
 pub returns-then-f-ne-SIGNATURE : goal.returns-then-f-ne-SIGNATURE
 returns-then-f-ne-SIGNATURE c = number_2 _ _ c.if-f-ne-SIGNATURE.true

@@ -1,8 +1,8 @@
--- `map_number` meets its contract: the first of checks 8 to 10 that fires, by the marks that the claims leave. Assumes nothing.
+-- `judge_map` meets its contract: the first of checks 8 to 10 that fires, by the marks that the claims leave. Assumes nothing.
 use mathlib.Core.Path.{sym, ◌∙◌}
 use Rattle.checks.proofs.Agreeing.{unowned_alike, free_alike, claims_all_alike}
 use Rattle.checks.proofs.Claims.{number_8, number_9, number_10, number_0}
-use Rattle.checks.proofs.verdict.map_number.Goals as goal
+use Rattle.checks.proofs.verdict.judge_map.Goals as goal
 
 pub returns-then-not-claim_all : goal.returns-then-not-claim_all
 returns-then-not-claim_all c =

@@ -1,5 +1,0 @@
--- `of_quick_find` meets its contract: what it does not tell is zero. Assumes nothing.
-use Rattle.volume.proofs.answer_of.of_quick_find.Goals as goal
-
-pub returns : goal.returns
-returns c = rw c.of_number-o.ensures
