@@ -1,5 +1,5 @@
 -- A chain freed block by block, as a loop does it.
-use Prim.Native.Nat.{ℕ, zero, suc, ◌+◌, ◌-◌, ◌≤◌, ◌<◌}
+use Prim.Native.Nat.{ℕ, zero, suc, ◌+◌, ◌≤◌, ◌<◌}
 use mathlib.Core.Path.{◌≡◌, refl, sym, ap, ◌∙◌}
 use mathlib.Core.Bool.{true}
 use mathlib.Core.List.{List, [], ◌∷◌}
@@ -67,15 +67,15 @@ module _ (n b left : ℕ) (m l : List ℕ) where
       go (x ∷ r) c q k = (omega (arith, k.0), omega (arith, k.1))
 
   -- it gets the entry 0, and what its entry was is the next one
-  free_step : n ≤ 640 → 0 < left → Freeing n m b left l → Freeing n (set_entry m b 0) (map_entry m b) (left - 1) l
+  free_step : (left' : ℕ) → n ≤ 640 → left ≡ suc left' → Freeing n m b left l → Freeing n (set_entry m b 0) (map_entry m b) left' l
   unfolding behind Linked put_free
-  free_step small h f = go f.rest f.count (f.first h) f.linked f.once f.leaves
+  free_step left' small h f = go f.rest f.count (f.first (omega arith)) f.linked f.once f.leaves
     where
       in_map : (2 ≤ b) × (b ≤ n + 1)
-      in_map = free_block h f
+      in_map = free_block (omega arith) f
 
       go : (r : List ℕ) → length r ≡ left → behind r ≡ b → Linked (map_entry m) n r → Once r → put_free m r ≡ l
-          → Freeing n (set_entry m b 0) (map_entry m b) (left - 1) l
+          → Freeing n (set_entry m b 0) (map_entry m b) left' l
       go [] c q k o e = absurd (omega arith)
       go (x ∷ r) c q k o e = record {
         rest = r;
@@ -89,8 +89,8 @@ module _ (n b left : ℕ) (m l : List ℕ) where
         leaves = ap (λ z. put_free (set_entry m z 0) r) (sym q) ∙ e;
       }
 
-  pub free_next : (m' : List ℕ) (x : ℕ) → m' ≡ set_entry m b 0 → x ≡ map_entry m b → n ≤ 640 → 0 < left → Freeing n m b left l → Freeing n m' x (left - 1) l
-  free_next m' x p q small h f = rw (p, q) (free_step small h f)
+  pub free_next : (m' : List ℕ) (x left' : ℕ) → m' ≡ set_entry m b 0 → x ≡ map_entry m b → n ≤ 640 → left ≡ suc left' → Freeing n m b left l → Freeing n m' x left' l
+  free_next m' x left' p q small h f = rw (p, q) (free_step left' small h f)
 
   -- none is left
   pub freed : left ≡ 0 → Freeing n m b left l → m ≡ l

@@ -47,12 +47,11 @@ free_same e e' n b h = keep_same (λ x. eqb (e' x) 0) (λ x. eqb (e x) 0) (n + 2
 
 -- ---- free blocks joined one by one
 
-put_next : (m : List ℕ) (b x left : ℕ) (r : List ℕ) → 1 < left
-    → put_chain m (take left (b ∷ x ∷ r)) ≡ put_chain (set_entry m b x) (take (left - 1) (x ∷ r))
+put_next : (m : List ℕ) (b x left left' : ℕ) (r : List ℕ) → left ≡ suc left' → 1 ≤ left'
+    → put_chain m (take left (b ∷ x ∷ r)) ≡ put_chain (set_entry m b x) (take left' (x ∷ r))
 unfolding put_chain behind
-put_next m b x zero r h = absurd (omega arith)
-put_next m b x (suc zero) r h = absurd (omega arith)
-put_next m b x (suc (suc k)) r h = let q : suc (suc k) - 1 ≡ suc k = omega arith in rw q
+put_next m b x left zero r q h = absurd (omega arith)
+put_next m b x left (suc k) r q h = rw q
 
 put_last : (m : List ℕ) (b left : ℕ) (r : List ℕ) → left ≡ 1 → put_chain m (take left (b ∷ r)) ≡ set_entry m b 1
 unfolding put_chain behind
@@ -76,8 +75,8 @@ module _ (n b left : ℕ) (m l : List ℕ) (f : Linking n m b left l) where
   pub link_more : 1 < left → 1 ≤ length (free_from (map_entry m) n (b + 1))
   link_more h = omega (arith, f.enough, ap length here)
 
-  link_step : (x : ℕ) → n ≤ 640 → 1 < left → IsFree (map_entry m) n (b + 1) x → Linking n (set_entry m b x) x (left - 1) l
-  link_step x small h g =
+  link_step : (x left' : ℕ) → n ≤ 640 → left ≡ suc left' → 1 ≤ left' → IsFree (map_entry m) n (b + 1) x → Linking n (set_entry m b x) x left' l
+  link_step x left' small q h g =
       let e = map_entry m in
       let e' = map_entry (set_entry m b x) in
       let kept : (y : ℕ) → x ≤ y → e' y ≡ e y = λ y p.
@@ -93,13 +92,13 @@ module _ (n b left : ℕ) (m l : List ℕ) (f : Linking n m b left l) where
         free = kept x (omega arith) ∙ g.free;
         some = omega arith;
         enough = omega (arith, ap length same, ap length here, ap length g.first, f.enough);
-        leaves = ap (λ r. put_chain (set_entry m b x) (take (left - 1) r)) (same ∙ next)
-            ∙ sym (put_next m b x left (free_from e n (x + 1)) h)
+        leaves = ap (λ r. put_chain (set_entry m b x) (take left' r)) (same ∙ next)
+            ∙ sym (put_next m b x left left' (free_from e n (x + 1)) q h)
             ∙ ap (λ r. put_chain m (take left r)) (sym all) ∙ f.leaves;
       }
 
-  pub link_next : (x : ℕ) (m' : List ℕ) → m' ≡ set_entry m b x → n ≤ 640 → 1 < left → IsFree (map_entry m) n (b + 1) x → Linking n m' x (left - 1) l
-  link_next x m' p small h g = rw p (link_step x small h g)
+  pub link_next : (x left' : ℕ) (m' : List ℕ) → m' ≡ set_entry m b x → n ≤ 640 → left ≡ suc left' → 1 ≤ left' → IsFree (map_entry m) n (b + 1) x → Linking n m' x left' l
+  link_next x left' m' p small q h g = rw p (link_step x left' small q h g)
 
   pub link_last : left ≡ 1 → set_entry m b 1 ≡ l
   link_last h = sym (put_last m b left (free_from (map_entry m) n (b + 1)) h) ∙ ap (λ r. put_chain m (take left r)) (sym here) ∙ f.leaves

@@ -11,7 +11,7 @@ use Rattle.model.specs.Bytes.{Bytes}
 use Rattle.model.specs.declared.TwoEntries.{TwoEntries}
 use Rattle.model.proofs.Threes.{parity_even, parity_odd, even_byte, odd_byte, are_bytes, ab_of, c_of, d_of, ef_of}
 use Rattle.blockmap.specs.Stored.{put_pair}
-use Rattle.blockmap.specs.Decoded.{decoded_entry, Decoded}
+use Rattle.blockmap.specs.Decoded.{decoded_entry}
 
 -- ---- one entry stored
 
@@ -75,7 +75,3 @@ below_more image b xs v w room p q d i low high = go (ℕ_discrete i (b + 1)) (�
         let o : b ≡ b + 1 → ⊥ = λ k. omega arith in
         rw z (get_or-set_other (set xs b v) (b + 1) b w 0 o ∙ get_or-set_same xs b v 0 (omega arith) ∙ p)
     go (no y) (no z) = get_or-set_other (set xs b v) (b + 1) i w 0 y ∙ get_or-set_other xs b i v 0 z ∙ d i low (omega arith)
-
--- all are decoded
-pub below_all : (image : List ℕ) (n b : ℕ) (xs : List ℕ) → n + 2 ≤ b → Below image b xs → Decoded image n xs
-below_all image n b xs h d = record { same = λ i low high. d i low (omega arith) }

@@ -20,14 +20,8 @@ pub fn walk(entries: &[u16; 642], n: u16, s: u16, k: u16, marks: &mut [u8; 642])
     if k == 0 {
         return s == 1;
     }
-    if s < 2 {
-        return false;
-    }
-    if n + 1 < s {
-        return false;
-    }
     let place = s as usize;
-    if marks[place] != 0 {
+    if s < 2 || n + 1 < s || marks[place] != 0 {
         return false;
     }
     marks[place] = 1;
@@ -41,30 +35,19 @@ pub fn claim_fork(entries: &[u16; 642], n: u16, a: u32, g: ForkFacts, marks: &mu
     ensures answer { result ≡ claims (decoded_entry entries.now) n a marks.old g }
     ensures after { result ≡ true → marks.new ≡ marked marks.old (fork_blocks (decoded_entry entries.now) a g) }
 {
-    let start = g.start;
-    let logical = g.logical;
-    let physical = g.physical;
-    let first = start.0;
+    let ForkFacts {
+        start: AllocationBlock(first),
+        logical,
+        physical,
+    } = g;
     if first == 0 {
-        if logical != 0 {
-            return false;
-        }
-        return physical == 0;
+        return logical == 0 && physical == 0;
     }
-    if physical == 0 {
-        return false;
-    }
-    if physical % a != 0 {
-        return false;
-    }
-    if physical < logical {
+    if physical == 0 || physical % a != 0 || physical < logical {
         return false;
     }
     let k = block_count(g, a);
-    if (n as u32) < k {
-        return false;
-    }
-    walk(entries, n, first, k as u16, marks)
+    k <= n as u32 && walk(entries, n, first, k as u16, marks)
 }
 
 // The block at a place of the chain that runs from s, counted from 0.
@@ -73,10 +56,8 @@ pub fn block_at(image: &[u8], s: AllocationBlock, place: u16) -> AllocationBlock
     ensures { IsPlace (map_entry image.now) s.0 place result.0 }
 {
     let mut b = s;
-    let mut i: u16 = 0;
-    while i < place {
+    for _ in 0..place {
         b = AllocationBlock(load(image, b));
-        i += 1;
     }
     b
 }

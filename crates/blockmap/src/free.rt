@@ -12,12 +12,10 @@ pub fn free_chain(image: &mut [u8], n: u16, s: AllocationBlock, k: u16)
     ensures { image.new ≡ put_free image.old (chain_blocks (map_entry image.old) k s.0) }
 {
     let mut b = s.0;
-    let mut left = k;
-    while 0 < left {
+    for _ in 0..k {
         let next = load(image, AllocationBlock(b));
         store(image, AllocationBlock(b), 0);
         b = next;
-        left -= 1;
     }
 }
 

@@ -114,14 +114,10 @@ pub fn decode(image: &[u8], n: u16, entries: &mut [u16; 642])
 {
     // A proof learns a lent array's length where it is made a slice.
     let entries: &mut [u16] = entries;
-    let end = n as usize + 2;
-    let mut at = MAP_AT;
-    let mut b: usize = 2;
-    while b < end {
-        let pair = split(three_bytes(image, at));
+    for i in 0..(n as usize).div_ceil(2) {
+        let pair = split(three_bytes(image, MAP_AT + 3 * i));
+        let b = 2 * i + 2;
         entries[b] = pair.first;
         entries[b + 1] = pair.second;
-        at += 3;
-        b += 2;
     }
 }

@@ -1,5 +1,5 @@
 // What the map's entries say, and the checks over all of them, block by block. The map comes decoded.
-ghost use Rattle.std.specs.Prelude.{◌≡◌, ◌&&◌, eqb, ltb, ◌≤◌, length};
+ghost use Rattle.std.specs.Prelude.{◌≡◌, ◌≤◌, length};
 ghost use Rattle.model.specs.Map.{sort_of, blocks_free};
 ghost use Rattle.model.specs.Check.{fires5};
 ghost use Rattle.blockmap.specs.Decoded.{decoded_entry};
@@ -34,57 +34,36 @@ pub fn any_bad(entries: &[u16; 642], n: u16) -> bool
 {
     let end = n as usize + 2;
     let mut found = false;
-    let mut b: usize = 2;
-    while b < end {
-        let sort = sort_value(entries[b], n);
-        match sort {
-            MapValue::Bad => {
-                found = true;
-            }
-            MapValue::Free => {}
-            MapValue::Last => {}
-            MapValue::Next(_) => {}
-        }
-        b += 1;
+    for value in &entries[2..end] {
+        found |= matches!(sort_value(*value, n), MapValue::Bad);
     }
     found
 }
 
-// Whether a block with this entry and this mark has an entry above 0 and no mark, with no branch.
-fn is_lost(value: u16, mark: u8) -> bool
-    ensures { result ≡ (ltb 0 value && eqb mark 0) }
-{
-    (0 < value) & (mark == 0)
-}
-
-// Whether a block with an entry above 0 has no mark.
+// Whether a block with an entry above 0 has no mark. All are looked at, with `&` in place of `&&` and so with no branch.
 pub fn any_unowned(entries: &[u16; 642], n: u16, marks: &[u8; 642]) -> bool
     requires { n ≤ 640 }
     ensures { result ≡ unowned (decoded_entry entries.now) n marks.now }
 {
     let end = n as usize + 2;
     let mut found = false;
-    let mut b: usize = 2;
-    while b < end {
-        found = found | is_lost(entries[b], marks[b]);
-        b += 1;
+    for (value, mark) in entries[2..end].iter().zip(&marks[2..end]) {
+        found |= (0 < *value) & (*mark == 0);
     }
     found
 }
 
-// How many entries are 0. In one loop with the marks neither would be done for several entries at once.
+// How many entries are 0. In one loop with the marks neither would be done for several entries at once, nor by a filter's `count`.
 pub fn free_count(entries: &[u16; 642], n: u16) -> u16
     requires { n ≤ 640 }
     ensures { result ≡ length (blocks_free (decoded_entry entries.now) n) }
 {
     let end = n as usize + 2;
-    let mut free: u16 = 0;
-    let mut b: usize = 2;
-    while b < end {
-        if entries[b] == 0 {
+    let mut free = 0;
+    for value in &entries[2..end] {
+        if *value == 0 {
             free += 1;
         }
-        b += 1;
     }
     free
 }

@@ -1,7 +1,7 @@
 -- `free_chain` meets its contract. The invariant: the blocks still due are a chain's, and freeing them leaves what is promised.
 -- Assumes nothing.
-use Prim.Native.Nat.{◌≤◌}
-use mathlib.Core.Path.{refl, ap, ◌∙◌}
+use Prim.Native.Nat.{◌+◌, ◌-◌}
+use mathlib.Core.Path.{◌≡◌, refl, ap, ◌∙◌}
 use native.Mathlib.Omega.{arith}
 use lib.ListN.{length}
 use Rattle.model.specs.Map.{map_entry, chain_blocks, put_free}
@@ -9,43 +9,37 @@ use Rattle.laws.proofs.Entries.{length_set_entry}
 use Rattle.blockmap.proofs.Frees.{freeing, free_block, free_next, freed}
 use Rattle.blockmap.proofs.free.free_chain.Goals as goal
 
-pub loop-left-init : goal.loop-left-init
-loop-left-init c =
+pub loop-init : goal.loop-init
+loop-init c =
     let a = c.args in
-    (refl, freeing a.n a.k a.s.0 a.image.now (omega arith) c.requires.2)
+    let q : a.k - 0 ≡ a.k = omega arith in
+    (refl, rw q (freeing a.n a.k a.s.0 a.image.now (omega arith) c.requires.2))
 
 pub load-next-requires : goal.load-next-requires
 load-next-requires c =
-    let block : (2 ≤ c.loop-left.b) × (c.loop-left.b ≤ 641) = let l = c.loop-left in
-    let h = free_block c.args.n l.b l.left l.image _ (omega arith) l.invariant.1 in
-    omega arith in
-    let f = c.loop-left.invariant.1.big in
-    let b = block in
+    let l = c.loop in
+    let h = free_block c.args.n l.b (c.args.k - l.counter) l.image _ (omega arith) l.invariant.1 in
+    let f = l.invariant.1.big in
     omega arith
 
 pub store-requires : goal.store-requires
 store-requires c =
-    let block : (2 ≤ c.loop-left.b) × (c.loop-left.b ≤ 641) = let l = c.loop-left in
-    let h = free_block c.args.n l.b l.left l.image _ (omega arith) l.invariant.1 in
-    omega arith in
-    let f = c.loop-left.invariant.1.big in
-    let b = block in
+    let l = c.loop in
+    let h = free_block c.args.n l.b (c.args.k - l.counter) l.image _ (omega arith) l.invariant.1 in
+    let f = l.invariant.1.big in
     omega arith
 
-pub loop-left-preserved : goal.loop-left-preserved
-loop-left-preserved c =
+pub loop-preserved : goal.loop-preserved
+loop-preserved c =
     let a = c.args in
-    let l = c.loop-left in
+    let l = c.loop in
     let st = c.store.ensures in (
       ap length st ∙ length_set_entry l.image l.b 0 ∙ l.invariant.0,
-      free_next a.n l.b l.left l.image (put_free a.image.now (chain_blocks (map_entry a.image.now) a.k a.s.0))
-          c.store.new.image c.load-next.result st c.load-next.ensures.0 (omega arith) (omega arith) l.invariant.1,
+      free_next a.n l.b (a.k - l.counter) l.image (put_free a.image.now (chain_blocks (map_entry a.image.now) a.k a.s.0))
+          c.store.new.image c.load-next.result (a.k - (l.counter + 1)) st c.load-next.ensures.0 (omega arith) (omega arith) l.invariant.1,
     )
-
-pub shape_of-image : goal.shape_of-image
-shape_of-image c = c.loop-left.invariant.0
 
 pub returns : goal.returns
 returns c =
-    let l = c.loop-left in
-    freed _ l.b l.left l.image _ (omega arith) l.invariant.1
+    let l = c.loop in
+    freed _ l.b (c.args.k - l.counter) l.image _ (omega arith) l.invariant.1

@@ -1,37 +1,25 @@
--- `decode` meets its contract. The invariant: b is even, `at` is the first byte of its pair, and the blocks below b are decoded.
--- Assumes nothing.
-use mathlib.Core.Path.{◌≡◌, ◌∙◌, sym, ap}
+-- `decode` meets its contract. The invariant: the blocks of the pairs passed are decoded. Assumes nothing.
+use Prim.Native.Nat.{◌+◌, ◌*◌}
+use mathlib.Core.Path.{◌≡◌, ◌∙◌, sym, ap, subst}
 use native.Mathlib.Omega.{arith}
-use lib.ListN.{length-set}
+use lib.ListN.{length-set, set}
 use Rattle.model.specs.Map.{pair_byte, three_bytes, entries_in}
 use Rattle.model.proofs.Threes.{first_entry, entry_behind}
-use Rattle.blockmap.proofs.Pairs.{below_more, below_all}
+use Rattle.blockmap.proofs.Pairs.{Below, below_more}
 use Rattle.blockmap.proofs.packed.decode.Goals as goal
 
-pub loop-b-init : goal.loop-b-init
-loop-b-init c = (omega arith, omega arith, omega arith, omega arith, c.entries-1.given.0.1, λ i low high. absurd (omega arith))
-
-pub bounds-entries-b-in-loop-b : goal.bounds-entries-b-in-loop-b
-bounds-entries-b-in-loop-b c = let l = c.loop-b in omega (arith, length-set l.entries l.b c.split-pair.result.first)
-
-pub loop-b-preserved : goal.loop-b-preserved
-loop-b-preserved c =
-    let l = c.loop-b in
+pub loop-i-preserved : goal.loop-i-preserved
+loop-i-preserved c =
+    let l = c.loop-i in
     let image = c.args.image.now in
-    let pair : c.split-pair.result ≡ entries_in (three_bytes image (pair_byte l.b)) =
-    c.split-pair.ensures.0 ∙ ap entries_in (c.three_bytes.ensures ∙ ap (three_bytes image) l.invariant.3) in
-    let v = ap (λ p. p.first) pair ∙ sym (first_entry image l.b l.invariant.0 l.invariant.1) in
-    let w = ap (λ p. p.second) pair ∙ sym (entry_behind image l.b l.invariant.0 l.invariant.1) in (
-      omega arith,
-      omega arith,
-      omega arith,
-      omega arith,
-      simp length-set l.invariant.4,
-      below_more image l.b l.entries _ _ (omega arith) v w l.invariant.5,
+    let b = 2 * l.i + 2 in
+    let at : 1088 + 3 * l.i ≡ pair_byte b = omega arith in
+    let pair : c.split-pair.result ≡ entries_in (three_bytes image (pair_byte b)) =
+    c.split-pair.ensures.0 ∙ ap entries_in (c.three_bytes.ensures ∙ ap (three_bytes image) at) in
+    let v = ap (λ p. p.first) pair ∙ sym (first_entry image b (omega arith) (omega arith)) in
+    let w = ap (λ p. p.second) pair ∙ sym (entry_behind image b (omega arith) (omega arith)) in
+    let next : b + 2 ≡ 2 * (l.i + 1) + 2 = omega arith in (
+      simp length-set l.invariant.0,
+      subst (λ k. Below image k (set (set l.entries b c.split-pair.result.first) (b + 1) c.split-pair.result.second)) next
+          (below_more image b l.entries _ _ (omega arith) v w l.invariant.1),
     )
-
-pub returns : goal.returns
-returns c =
-    let l = c.loop-b in
-    let a = c.args in
-    below_all a.image.now a.n l.b l.entries (omega arith) l.invariant.5

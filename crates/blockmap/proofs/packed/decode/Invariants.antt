@@ -1,14 +1,9 @@
--- `decode` meets its contract. The invariant: b is even, `at` is the first byte of its pair, and the blocks below b are decoded.
--- Assumes nothing.
-use Prim.Native.Nat.{◌+◌, ◌-◌, ◌%◌, ◌≤◌}
+-- `decode` meets its contract. The invariant: the blocks of the pairs passed are decoded. Assumes nothing.
+use Prim.Native.Nat.{◌+◌, ◌*◌}
 use mathlib.Core.Path.{◌≡◌}
 use lib.ListN.{length}
-use Rattle.model.specs.Map.{pair_byte}
 use Rattle.blockmap.proofs.Pairs.{Below}
 use Rattle.blockmap.proofs.packed.decode.Given as goal
 
-abbrev pub invariant-loop-b : goal.invariant-loop-b
-invariant-loop-b l = (2 ≤ l.b) × (l.b % 2 ≡ 0) × (l.b ≤ l.n + 3) × (l.at ≡ pair_byte l.b) × (length l.entries ≡ 642) × Below l.image l.b l.entries
-
-abbrev pub decreases-loop-b : goal.decreases-loop-b
-decreases-loop-b l = l.n + 3 - l.b
+abbrev pub invariant-loop-i : goal.invariant-loop-i
+invariant-loop-i l = (length l.entries ≡ 642) × Below l.image (2 * l.i + 2) l.entries

@@ -1,45 +1,41 @@
--- `any_bad` meets its contract. The invariant: the answer is what was found in the blocks passed, or that of those left.
--- Assumes nothing.
-use Prim.Native.Nat.{◌+◌}
-use mathlib.Core.Bool.{true, false}
-use mathlib.Core.Path.{◌≡◌, sym, ap, ◌∙◌}
+-- `any_bad` meets its contract. The invariant: the answer is that of the entries passed. Assumes nothing.
+use Prim.Native.Nat.{ℕ}
+use mathlib.Core.Path.{◌≡◌, refl, sym, ap, ◌∙◌}
+use mathlib.Core.Bool.{false}
 use native.Mathlib.Omega.{arith}
-use Rattle.model.specs.Lists.{any}
-use Rattle.model.specs.Map.{is_bad}
+use Rattle.std.specs.List.{list_any}
+use Rattle.std.proofs.lemmas.List.Folds.{list_any_more}
+use Rattle.model.specs.Map.{is_bad, sort_of}
 use Rattle.model.specs.Check.{fires5}
+use Rattle.model.specs.declared.MapValue.{MapValue}
+use Rattle.model.specs.declared.MapValue.TheVariants.{Free, Last, Next, Bad}
 use Rattle.blockmap.specs.Decoded.{decoded_entry}
-use Rattle.blockmap.proofs.Ranges.{all_onward, flag_hit, flag_miss, flag_none}
-use Rattle.blockmap.proofs.scan.any_bad.Invariants.{bad, SeenBad}
+use Rattle.blockmap.proofs.Ranges.{part_all, any_part}
 use Rattle.blockmap.proofs.scan.any_bad.Goals as goal
-use Rattle.blockmap.proofs.scan.any_bad.Goals.{in-Bad, in-Free, in-Last, in-Next}
+use Rattle.blockmap.proofs.scan.any_bad.Goals.{in-Bad, in_default}
 
-pub loop-b-init : goal.loop-b-init
-unfolding fires5
-loop-b-init c = (omega arith, omega arith, ap (any (bad c.args.entries.now c.args.n)) (all_onward c.args.n))
+-- no other is bad
+not_bad : (v : MapValue) → (v ≡ Bad → ⊥) → false ≡ is_bad v
+unfolding is_bad
+not_bad Free h = refl
+not_bad Last h = refl
+not_bad (Next b) h = refl
+not_bad Bad h = absurd (h refl)
 
-pub loop-b-preserved : goal.loop-b-preserved
-unfolding is_bad decoded_entry
-loop-b-preserved c =
-    let a = c.args in
-    let n = a.n in
-    let l = c.loop-b in
-    let p = bad a.entries.now n in
-    let f = c.match-sort.found in
-    let sorted : p l.b ≡ is_bad c.sort_value-sort.result = ap is_bad (sym c.sort_value-sort.ensures) in
-    let hit : is_bad c.sort_value-sort.result ≡ true → f ≡ true → SeenBad a.entries.now n f (l.b + 1) =
-    λ e q. l.invariant.2 ∙ flag_hit p n l.b l.found f (omega arith) (sorted ∙ e) q in
-    let miss : is_bad c.sort_value-sort.result ≡ false → f ≡ l.found → SeenBad a.entries.now n f (l.b + 1) =
-    λ e q. l.invariant.2 ∙ flag_miss p n l.b l.found f (omega arith) (sorted ∙ e) q in
-    let passed : SeenBad a.entries.now n f (l.b + 1) = elim c.match-sort.branch [
-      | in-Bad w ↦ hit (ap is_bad w.in-Bad.is) w.found-is
-      | in-Free w ↦ miss (ap is_bad w.in-Free.is) w.found-is
-      | in-Last w ↦ miss (ap is_bad w.in-Last.is) w.found-is
-      | in-Next w ↦ miss (ap is_bad w.in-Next.is) w.found-is
+pub loop-value-preserved : goal.loop-value-preserved
+unfolding is_bad
+loop-value-preserved c =
+    let l = c.loop-value in
+    let found : c.match-matches.matches ≡ is_bad c.sort_value.result = elim c.match-matches.branch [
+      | in-Bad w ↦ w.matches-is ∙ sym (ap is_bad w.in-Bad.is)
+      | in_default w ↦ w.matches-is ∙ not_bad c.sort_value.result w.in_default.not-Bad
     ] in
-    (omega arith, omega arith, passed)
+    rw (found, c.sort_value.ensures, l.invariant) (sym (list_any_more (λ v. is_bad (sort_of c.args.n v)) _ l.value-index 0 c.loop-value-test.true))
 
 pub returns : goal.returns
+unfolding fires5 decoded_entry
 returns c =
     let a = c.args in
-    let l = c.loop-b in
-    sym (l.invariant.2 ∙ flag_none (bad a.entries.now a.n) a.n l.b l.found (omega arith))
+    let l = c.loop-value in
+    let p = λ (v : ℕ). is_bad (sort_of a.n v) in
+    l.invariant ∙ ap (list_any p) (part_all a.entries.now a.n l.value-index c.loop-value-test.false) ∙ sym (any_part p a.entries.now a.n 2 (omega arith))
