@@ -76,20 +76,6 @@ returns-then-k-eq0-2 c =
       start = sym (ap first_or0 q ∙ (first_new e a.n x a.need f some).1);
     }
 
-pub block_at-last-requires : goal.block_at-last-requires
-block_at-last-requires c =
-    let count : let a = c.args in a.k ≡ suc (a.k - 1) = omega arith in
-    let chain : let a = c.args in runs (map_entry a.image.now) a.n (suc (a.k - 1)) a.s.0 ≡ true = subst (λ j. runs (map_entry c.args.image.now) c.args.n j c.args.s.0 ≡ true) count (c.requires.2 (omega arith)) in
-    (record { n = c.args.n; k = c.args.k; small = c.requires.0; chain = c.requires.2 (omega arith); within = omega arith }, c.requires.1)
-
-pub store-requires : goal.store-requires
-store-requires c =
-    let count : let a = c.args in a.k ≡ suc (a.k - 1) = omega arith in
-    let chain : let a = c.args in runs (map_entry a.image.now) a.n (suc (a.k - 1)) a.s.0 ≡ true = subst (λ j. runs (map_entry c.args.image.now) c.args.n j c.args.s.0 ≡ true) count (c.requires.2 (omega arith)) in
-    let b = c.block_at-last.ensures in
-    let h = b.high c.args.n (suc (c.args.k - 1)) chain (omega arith) in
-    (b.low, omega (arith, c.requires.0), c.requires.1, omega (arith, c.requires.0, c.next_free-first.ensures.high))
-
 pub join_free-requires-2 : goal.join_free-requires-2
 join_free-requires-2 c =
     let some : 1 ≤ c.args.need = omega arith in

@@ -1,5 +1,5 @@
 -- `shorten` meets its contract: what stands is not stored again. Assumes nothing.
-use Prim.Native.Nat.{suc, ◌-◌, ◌≤◌, ◌<◌}
+use Prim.Native.Nat.{suc, ◌-◌, ◌<◌}
 use mathlib.Core.Path.{◌≡◌, ap, ◌∙◌}
 use mathlib.Core.Bool.{true}
 use native.Mathlib.Omega.{arith}
@@ -23,27 +23,6 @@ returns-then-keep-eq0 c =
     let a = c.args in
     c.free_chain.ensures
     ∙ short_none a.image.now (chain_blocks (map_entry a.image.now) a.k a.s.0) a.keep c.if-keep-eq0.true
-
-pub block_at-last-requires : goal.block_at-last-requires
-block_at-last-requires c =
-    let within : let a = c.args in a.keep - 1 < a.k = omega arith in
-    let chain : let a = c.args in runs (map_entry a.image.now) a.n a.k a.s.0 ≡ true = c.requires.2 (omega arith) in
-    (record { n = c.args.n; k = c.args.k; small = omega arith; chain = c.requires.2 (omega arith); within = omega arith }, c.requires.1)
-
-pub load-next-requires : goal.load-next-requires
-load-next-requires c =
-    let within : let a = c.args in a.keep - 1 < a.k = omega arith in
-    let chain : let a = c.args in runs (map_entry a.image.now) a.n a.k a.s.0 ≡ true = c.requires.2 (omega arith) in
-    let block : (2 ≤ c.block_at-last.result.0) × (c.block_at-last.result.0 ≤ 641) = let a = c.args in (c.block_at-last.ensures.low, omega (arith, c.block_at-last.ensures.high a.n a.k chain within)) in
-    let b = block in (b.0, b.1, c.requires.1)
-
-pub store-requires : goal.store-requires
-store-requires c =
-    let within : let a = c.args in a.keep - 1 < a.k = omega arith in
-    let chain : let a = c.args in runs (map_entry a.image.now) a.n a.k a.s.0 ≡ true = c.requires.2 (omega arith) in
-    let block : (2 ≤ c.block_at-last.result.0) × (c.block_at-last.result.0 ≤ 641) = let a = c.args in (c.block_at-last.ensures.low, omega (arith, c.block_at-last.ensures.high a.n a.k chain within)) in
-    let b = block in
-    (b.0, b.1, c.requires.1, omega arith)
 
 pub free_chain-requires-2 : goal.free_chain-requires-2
 free_chain-requires-2 c =
