@@ -4,17 +4,18 @@ use mathlib.Core.Path.{◌≡◌, refl, sym, ap, ◌∙◌}
 use mathlib.Core.Bool.{true}
 use mathlib.Core.List.{List, [], ◌∷◌, ◌++◌, append_assoc, append-nil}
 use native.Mathlib.Omega.{arith}
-use lib.ListN.{length, take, drop, set, length-append, length-drop, length-replicate, get_or-replicate, take-append-drop}
-use lib.Seq.{paste, take-paste, drop-paste, drop-drop, take_all, take-take, take-add, length-take-le, get_or-drop}
+use lib.ListN.{length, take, drop, length-append, length-drop, length-replicate, take-append-drop}
+use lib.Seq.{paste, take-paste, drop-paste, drop-drop, take_all, take-take, take-add, length-take-le}
+use borrow.Rule.Slice.PartMut.{put_mid}
 use borrow.Author.Tests.{eqb-true, not-false}
+use Rattle.std.proofs.lemmas.Slice.{put_mid-paste}
 use Rattle.model.specs.Lists.{every, flat}
-use Rattle.model.specs.Bytes.{byte, zeros, part}
+use Rattle.model.specs.Bytes.{zeros, part}
 use Rattle.model.specs.Directory.{padded, entry_size, read_at, entries, read_end, cut_blocks, listing}
 use Rattle.model.specs.Check.{good_entry, fires6}
 use Rattle.model.specs.Calls.{filled}
 use Rattle.model.proofs.Lists.{and-true, every_append, flat_append}
-use Rattle.model.proofs.Copies.{move_byte}
-use Rattle.laws.proofs.Stores.{drop_take_add, paste_behind}
+use Rattle.laws.proofs.Stores.{drop_take_add}
 use Rattle.laws.proofs.Block.{Clean, used_within}
 use Rattle.laws.proofs.Places.{fills, removed_bytes}
 use Rattle.directory.specs.declared.Cursor.{Cursor}
@@ -61,23 +62,14 @@ block_ends image base c k h =
     let all : entries (block_of image c) ≡ k.before = k.split ∙ ap (λ (es : List (List ℕ)). k.before ++ es) none ∙ append-nil k.before in
     k.place ∙ ap (λ (es : List (List ℕ)). length (flat es)) (sym all) ∙ ap (λ (b : ℕ). length (flat (entries (part b 512 image)))) here
 
--- ---- one byte more
+-- ---- zeros
 
--- moved to an earlier place
-pub slide_byte : (d : List ℕ) (to from i : ℕ) → to ≤ from → from + i < length d
-    → set (paste d to (drop from d) i) (to + i) (byte (paste d to (drop from d) i) (from + i)) ≡ paste d to (drop from d) (i + 1)
-slide_byte d to from i h l =
-    let e = length-drop from d in
-    let old : byte (paste d to (drop from d) i) (from + i) ≡ byte (drop from d) i
-    = paste_behind d to (drop from d) i (omega arith) (omega arith) (from + i) (omega arith) ∙ sym (get_or-drop from d i 0) in
-    rw old (move_byte d (drop from d) to i (omega arith) (omega arith))
-
--- cleared
-pub clear_byte : (d : List ℕ) (at n i : ℕ) → i < n → at + n ≤ length d → set (paste d at (zeros n) i) (at + i) 0 ≡ paste d at (zeros n) (i + 1)
-clear_byte d at n i h l =
-    let z : byte (zeros n) i ≡ 0 = get_or-replicate n i 0 0 h in
-    let e = length-replicate {A = ℕ} n 0 in
-    ap (set (paste d at (zeros n) i) (at + i)) (sym z) ∙ move_byte d (zeros n) at i (omega arith) (omega arith)
+-- filled in from place a to place e
+pub zeros_put : (a e : ℕ) (m ys : List ℕ) → e ≤ length m → ys ≡ zeros (length (take (e - a) (drop a m)))
+    → put_mid a (e - a) m ys ≡ paste m a (zeros (e - a)) (e - a)
+zeros_put a e m ys h p =
+    let n : length (take (e - a) (drop a m)) ≡ e - a = length-take-le (e - a) (drop a m) (omega (arith, length-drop a m)) in
+    put_mid-paste a (e - a) m ys (zeros (e - a)) (e - a) (p ∙ ap zeros n) refl (sym (length-replicate {A = ℕ} (e - a) 0))
 
 -- ---- a part stored and cleared behind, as one block
 

@@ -18,7 +18,7 @@ pub record Laid (m : List ℕ) (s : ℕ) (c : List ℕ) (n : ℕ) (x : List ℕ)
   pub fits : s + n ≤ length m
   pub is : x ≡ paste m s c n
 
-sets_paste : (vs l : List ℕ) (i : ℕ) → i + length vs ≤ length l → sets l i vs ≡ paste l i vs (length vs)
+pub sets_paste : (vs l : List ℕ) (i : ℕ) → i + length vs ≤ length l → sets l i vs ≡ paste l i vs (length vs)
 sets_paste vs l i h = sets-eq vs l i h ∙ rw (take-length vs)
 
 module _ (m : List ℕ) (s : ℕ) where

@@ -10,10 +10,9 @@ ghost use Rattle.entries.specs.Rooms.{Roomy};
 
 use crate::Space;
 use crate::numbers::put32_at;
-use crate::remove::{clear, read_end};
+use crate::remove::read_end;
 use crate::title::put_date_and_name;
 use directory::{Cursor, EntryAt};
-use model::copy_part;
 
 // The first directory block, from a cursor at a block's start on, that has room for so many bytes.
 pub fn find_room(image: &[u8], from: Cursor, size: usize) -> Space
@@ -39,7 +38,7 @@ pub fn put_bytes(image: &mut [u8], at: usize, bytes: &[u8])
     requires { at + length bytes.now ≤ length image.old }
     ensures { image.new ≡ paste image.old at bytes.now (length bytes.now) }
 {
-    copy_part(bytes, 0, image, at, bytes.len());
+    image[at..at + bytes.len()].copy_from_slice(bytes);
 }
 
 // Puts an entry behind the last one of the directory block at byte base, whose reading ends at place end: its bytes up to the change
@@ -60,7 +59,7 @@ pub fn insert_with_head(
     put_bytes(image, at, head);
     put_date_and_name(image, at, name, changed);
     let behind = at + EntryAt::NAME_AT + name.len();
-    clear(image, behind, base + Cursor::BLOCK - behind);
+    image[behind..base + Cursor::BLOCK].fill(0);
 }
 
 // The bytes of an empty file's entry up to its change date.

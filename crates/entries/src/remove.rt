@@ -1,5 +1,4 @@
-// An entry taken out of a directory block; where the block's reading ends, and zeros stored, which an entry put in and one renamed
-// ask for too.
+// An entry taken out of a directory block; where the block's reading ends, which the search for room asks for too.
 ghost use Rattle.std.specs.Prelude.{◌≡◌, ◌+◌, ◌≤◌, length, drop};
 ghost use Rattle.std.proofs.Math.Seq.{paste};
 ghost use Rattle.model.specs.Bytes.{zeros, part};
@@ -31,30 +30,6 @@ pub fn read_end(image: &[u8], base: usize) -> usize
     }
 }
 
-// Moves n bytes to an earlier place.
-fn slide(image: &mut [u8], to: usize, from: usize, n: usize)
-    requires { (to ≤ from) × (from + n ≤ length image.old) }
-    ensures { image.new ≡ paste image.old to (drop from image.old) n }
-{
-    let mut i = 0;
-    while i < n {
-        image[to + i] = image[from + i];
-        i += 1;
-    }
-}
-
-// Stores n zeros.
-pub fn clear(image: &mut [u8], at: usize, n: usize)
-    requires { at + n ≤ length image.old }
-    ensures { image.new ≡ paste image.old at (zeros n) n }
-{
-    let mut i = 0;
-    while i < n {
-        image[at + i] = 0;
-        i += 1;
-    }
-}
-
 // Takes the entry out of its directory block: the later entries move up, and zeros follow them.
 pub fn remove_entry(image: &mut [u8], e: EntryAt)
     requires block { Block image.old (block_start e) }
@@ -66,8 +41,6 @@ pub fn remove_entry(image: &mut [u8], e: EntryAt)
     let base = start - start % Cursor::BLOCK;
     let end = base + read_end(image, base);
     let next = start + entry_size(e.name_length);
-    let n = end - next;
-    slide(image, start, next, n);
-    let last = start + n;
-    clear(image, last, base + Cursor::BLOCK - last);
+    image.copy_within(next..end, start);
+    image[start + (end - next)..base + Cursor::BLOCK].fill(0);
 }

@@ -8,9 +8,7 @@ ghost use Rattle.directory.specs.Cursor.{bytes_at, Stands};
 
 use crate::insert::put_bytes;
 use crate::numbers::put32_at;
-use crate::remove::clear;
 use directory::{EntryAt, entry_size};
-use model::copy_part;
 
 // Stores date and name in the entry at a byte of the image.
 pub fn put_date_and_name(image: &mut [u8], at: usize, name: &[u8], changed: u32)
@@ -28,7 +26,7 @@ pub fn kept_head(image: &[u8], e: EntryAt) -> [u8; 46]
     ensures { result ≡ part e.start 46 image.now }
 {
     let mut head = [0; EntryAt::CHANGED_AT];
-    copy_part(image, e.start, &mut head, 0, EntryAt::CHANGED_AT);
+    head.copy_from_slice(&image[e.start..e.start + EntryAt::CHANGED_AT]);
     head
 }
 
@@ -42,5 +40,5 @@ pub fn rename_entry(image: &mut [u8], e: EntryAt, name: &[u8], changed: u32)
     let start = e.start;
     put_date_and_name(image, start, name, changed);
     let behind = start + EntryAt::NAME_AT + name.len();
-    clear(image, behind, start + entry_size(name.len()) - behind);
+    image[behind..start + entry_size(name.len())].fill(0);
 }

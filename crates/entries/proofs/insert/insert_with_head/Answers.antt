@@ -4,6 +4,7 @@ use mathlib.Core.Path.{◌≡◌, refl, ◌∙◌}
 use native.Mathlib.Omega.{arith}
 use lib.ListN.{length}
 use Rattle.model.specs.Directory.{padded}
+use Rattle.entries.proofs.Blocks.{zeros_put}
 use Rattle.entries.proofs.Inserting.{kept_stores}
 use Rattle.entries.proofs.insert.insert_with_head.Goals as goal
 
@@ -36,21 +37,20 @@ put_date_and_name-requires c =
     let room : c.args.end + (51 + length c.args.name.now) ≤ 512 = let h = c.requires.end_value.1 in omega arith in
     (title_within _ _ _ _ _ room c.requires.block.within c.put_bytes.auto.image, c.requires.end_value.2)
 
-pub overflow_sub-base : goal.overflow_sub-base
+pub slice_bounds-fill-count : goal.slice_bounds-fill-count
 unfolding padded
-overflow_sub-base c =
-    let room : c.args.end + (51 + length c.args.name.now) ≤ 512 = let h = c.requires.end_value.1 in omega arith in
-    end_within _ _ _ room
+slice_bounds-fill-count c = end_within _ _ _ (let h = c.requires.end_value.1 in omega arith)
 
-pub clear-requires : goal.clear-requires
+pub slice_bounds-fill-start : goal.slice_bounds-fill-start
 unfolding padded
-clear-requires c =
-    let room : c.args.end + (51 + length c.args.name.now) ≤ 512 = let h = c.requires.end_value.1 in omega arith in
-    zeros_within _ _ _ _ _ room c.requires.block.within (c.put_date_and_name.auto.image ∙ c.put_bytes.auto.image)
+slice_bounds-fill-start c = end_within _ _ _ (let h = c.requires.end_value.1 in omega arith)
 
 pub returns : goal.returns
 returns c =
     let a = c.args in
+    let behind = a.base + a.end + 51 + length a.name.now in
+    let kept : length c.put_date_and_name.new.image ≡ length a.image.now = c.put_date_and_name.auto.image ∙ c.put_bytes.auto.image in
+    let cleared = zeros_put behind (a.base + 512) _ _ (omega (arith, c.requires.block.within)) (c.fill.ensures.after (λ y e. e)) in
     kept_stores a.head.now a.name.now a.changed c.told-head a.image.now a.base a.end
     c.requires.block c.requires.end_value.0 c.requires.end_value.1 _ _ _ c.put_bytes.ensures c.put_date_and_name.ensures
-    (a.base + a.end + 51 + length a.name.now) _ (joined _ _) refl c.clear.ensures
+    behind _ (joined _ _) refl cleared

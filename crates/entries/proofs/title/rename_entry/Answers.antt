@@ -4,6 +4,7 @@ use mathlib.Core.Path.{◌≡◌, ap}
 use native.Mathlib.Omega.{arith}
 use lib.ListN.{length}
 use Rattle.model.specs.Directory.{padded, size_for}
+use Rattle.entries.proofs.Blocks.{zeros_put}
 use Rattle.entries.proofs.Titles.{retitled_stores}
 use Rattle.entries.proofs.title.rename_entry.Goals as goal
 
@@ -26,15 +27,19 @@ joined s l = omega arith
 pub put_date_and_name-requires : goal.put_date_and_name-requires
 put_date_and_name-requires c = (title_within _ _ _ _ c.requires.name_value.0 c.requires.name_length_in_bounds, c.requires.name_value.1)
 
-pub overflow_sub-start : goal.overflow_sub-start
-overflow_sub-start c = end_within _ _ _ c.entry_size.ensures
+pub slice_bounds-fill-count : goal.slice_bounds-fill-count
+slice_bounds-fill-count c = end_within _ _ _ c.entry_size.ensures
 
-pub clear-requires : goal.clear-requires
-clear-requires c = zeros_within _ _ _ _ _ _ c.requires.name_value.0 c.requires.name_length_in_bounds c.entry_size.ensures c.put_date_and_name.auto.image
+pub slice_bounds-fill-start : goal.slice_bounds-fill-start
+slice_bounds-fill-start c = end_within _ _ _ c.entry_size.ensures
 
 pub returns : goal.returns
 returns c =
     let a = c.args in
     let at = a.e.start + 51 + length a.name.now in
+    let kept = c.put_date_and_name.auto.image in
+    let end = a.e.start + c.entry_size.result in
+    let cleared = zeros_put at end _ _ (omega (arith, kept, c.entry_size.ensures, c.requires.name_value.0, c.requires.name_length_in_bounds))
+    (c.fill.ensures.after (λ y e. e)) in
     retitled_stores a.name.now a.changed a.image.now a.e c.requires.name_value.0 c.requires.name_length_in_bounds _ _ c.put_date_and_name.ensures
-    at _ (joined _ _) (ap (λ (r : ℕ). a.e.start + r - at) c.entry_size.ensures) c.clear.ensures
+    at _ (joined _ _) (ap (λ (r : ℕ). a.e.start + r - at) c.entry_size.ensures) cleared
