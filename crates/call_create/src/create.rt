@@ -4,7 +4,6 @@ ghost use Rattle.files.specs.Lookup.{Readable};
 ghost use Rattle.files.specs.Told.{told_number};
 
 use directory::entry_size;
-use entries::Space;
 use files::{bad_name, first_entry, is_locked, lookup, too_long};
 use model::{Refusal, VolumeFacts};
 
@@ -37,9 +36,9 @@ pub fn serve_create(
         return Err(Refusal::LastNumber);
     }
     match entries::find_room(image, first_entry(f), entry_size(name.len())) {
-        Space::Nothing => Err(Refusal::DirectoryFull),
-        Space::At(base, end) => {
-            crate::add::add_file(image, f, base, end, name, finder, created, changed);
+        None => Err(Refusal::DirectoryFull),
+        Some(room) => {
+            crate::add::add_file(image, f, room, name, finder, created, changed);
             Ok(())
         }
     }

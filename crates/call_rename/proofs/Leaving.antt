@@ -22,6 +22,7 @@ use Rattle.laws.proofs.Block.{sound, split}
 use Rattle.laws.proofs.Titles.{same_length, sound_long, retitled_length, retitled_sound}
 use Rattle.laws.proofs.Blocks.{Whole, Cleans, clean_whole, Stays, removed_stays}
 use Rattle.laws.proofs.Image.{blocks_count, with_blocks, with_length, with_twice}
+use Rattle.std.specs.Prelude.{Option, Some, None}
 use Rattle.laws.proofs.DirectorySteps.{ReadableDirectory, clean_now, names_now, named_now, based_self}
 use Rattle.directory.specs.declared.Cursor.{Cursor}
 use Rattle.directory.specs.declared.EntryAt.{EntryAt}
@@ -29,11 +30,10 @@ use Rattle.directory.specs.Cursor.{bytes_at, Begins, Lies}
 use Rattle.directory.proofs.Parts.{name_of}
 use Rattle.entries.specs.Blocks.{Block, Removes}
 use Rattle.entries.specs.Rooms.{HasRoom, Roomy, RoomyWithout}
-use Rattle.entries.specs.declared.Space.{Space}
-use Rattle.entries.specs.declared.Space.TheVariants.{At, Nothing}
+use Rattle.entries.specs.declared.Room.{Room}
 use Rattle.entries.proofs.Blocks.{size_here}
 use Rattle.entries.proofs.Located.{own_clean, own_block, lies_block, entry_within, entry_rewritten}
-use Rattle.entries.proofs.Rooming.{room_at, room_none, no_room, some_room, room_within, room_block, room_placed}
+use Rattle.entries.proofs.Rooming.{no_room, some_room, room_within, room_block, room_placed}
 use Rattle.entries.proofs.OnceOut.{room_removed}
 use Rattle.files.specs.Lookup.{FileAt}
 use Rattle.files.proofs.Elsewhere.{held_removed}
@@ -171,35 +171,33 @@ module _ {f : VolumeFacts} {image : List ℕ} {e : EntryAt} (h : FileAt f image 
       unfolding renamed renamed_in
       renamed_there = rw (other_size q, renamed_in) refl
 
-      module _ {c : Cursor} (b : Begins (dir_start f) (dir_length f) c) (room : ℕ) (asked : room ≡ size_for (length new)) (s : Space)
-          (w : RoomyWithout image c.base c.left room e s) where
-        searched : Roomy out (512 * (dir_start f).0) c.left (size_for (length new)) s
-        searched =
+      module _ {c : Cursor} (b : Begins (dir_start f) (dir_length f) c) (room : ℕ) (asked : room ≡ size_for (length new)) where
+        searched : (s : Option Room) → RoomyWithout image c.base c.left room e s → Roomy out (512 * (dir_start f).0) c.left (size_for (length new)) s
+        searched s w =
             let from = subst (λ (k : ℕ). RoomyWithout image k c.left room e s) b.base w in
             subst (λ (k : ℕ). Roomy out (512 * (dir_start f).0) c.left k s) asked
             (room_removed f image e lies h.name has differ clean within c.left room s b.left from)
 
-        pub stuck : s ≡ Nothing → Retitles f image h.name (bytes_at image e) new changed 18 image
-        stuck p =
-            let none = no_room f out c.left (size_for (length new)) b.left
-            (room_none out (512 * (dir_start f).0) c.left (size_for (length new)) s searched p) in
+        pub stuck : RoomyWithout image c.base c.left room e None → Retitles f image h.name (bytes_at image e) new changed 18 image
+        stuck w =
+            let none = no_room f out c.left (size_for (length new)) b.left (searched None w) in
             let full : any (has_room (size_for (length new))) others ≡ false = ap (any (has_room (size_for (length new)))) (sym out_blocks) ∙ none in
             record { number = rw (other_size q, full); leaves = refl }
 
-        module _ (base end : ℕ) (p : s ≡ At base end) where
-          there : HasRoom out (512 * (dir_start f).0) c.left (size_for (length new)) base end
-          there = room_at out (512 * (dir_start f).0) c.left (size_for (length new)) s searched base end p
+        module _ (found : Room) (w : RoomyWithout image c.base c.left room e (Some found)) where
+          there : HasRoom out (512 * (dir_start f).0) c.left (size_for (length new)) found.base found.end
+          there = searched (Some found) w
 
           -- for the code
-          pub kept_block : (x : List ℕ) → x ≡ out → Block x base
+          pub kept_block : (x : List ℕ) → x ≡ out → Block x found.base
           kept_block x t =
-              subst (λ (l : List ℕ). Block l base) (sym t)
-              (room_block f out c.left (size_for (length new)) base end b.left there out_within out_clean)
+              subst (λ (l : List ℕ). Block l found.base) (sym t)
+              (room_block f out c.left (size_for (length new)) found.base found.end b.left there out_within out_clean)
 
-          pub kept_behind : (x : List ℕ) → x ≡ out → (end ≡ read_end (part base 512 x)) × (end + size_for (length new) ≤ 512) × (length new ≤ 255)
+          pub kept_behind : (x : List ℕ) → x ≡ out → (found.end ≡ read_end (part found.base 512 x)) × (found.end + size_for (length new) ≤ 512) × (length new ≤ 255)
           kept_behind x t = (
-            there.ends ∙ ap (λ (l : List ℕ). read_end (part base 512 l)) (sym t),
-            room_within f out c.left (size_for (length new)) base end b.left there,
+            there.ends ∙ ap (λ (l : List ℕ). read_end (part found.base 512 l)) (sym t),
+            room_within f out c.left (size_for (length new)) found.base found.end b.left there,
             title.short,
           )
 
@@ -209,24 +207,24 @@ module _ {f : VolumeFacts} {image : List ℕ} {e : EntryAt} (h : FileAt f image 
               ap (λ (l : List ℕ). l ++ date_and_name changed new)
               (t ∙ sym (take-take 46 (size_for e.name_length) (drop e.start image) (omega arith)))
 
-          put_in : paste out base (filled (entries (part base 512 out) ++ (it ∷ []))) 512 ≡ renamed f image h.name new changed (bytes_at image e)
+          put_in : paste out found.base (filled (entries (part found.base 512 out) ++ (it ∷ []))) 512 ≡ renamed f image h.name new changed (bytes_at image e)
           put_in =
               let big = retitled_length new changed (bytes_at image e) long in
-              let room = subst (λ (k : ℕ). HasRoom out (512 * (dir_start f).0) c.left k base end) (sym big) there in
+              let room = subst (λ (k : ℕ). HasRoom out (512 * (dir_start f).0) c.left k found.base found.end) (sym big) there in
               let ok = retitled_sound new changed (bytes_at image e) sounds title.some in
-              sym (room_placed f out out_within out_clean it ok c.left base end b.left room)
+              sym (room_placed f out out_within out_clean it ok c.left found.base found.end b.left room)
               ∙ ap (λ (bs : List (List ℕ)). with_directory f out (placed it bs)) out_blocks
               ∙ with_twice f image within others others_whole others_count (placed it others)
               ∙ sym renamed_there
 
           pub moves : (x head after : List ℕ) → x ≡ out → head ≡ part e.start 46 image
-              → after ≡ paste x base (filled (entries (part base 512 x) ++ ((head ++ date_and_name changed new) ∷ []))) 512
+              → after ≡ paste x found.base (filled (entries (part found.base 512 x) ++ ((head ++ date_and_name changed new) ∷ []))) 512
               → Retitles f image h.name (bytes_at image e) new changed 0 after
           moves x head after t k p =
               let some : any (has_room (size_for (length new))) others ≡ true
               = ap (any (has_room (size_for (length new)))) (sym out_blocks)
-              ∙ some_room f out c.left (size_for (length new)) base end b.left there in
+              ∙ some_room f out c.left (size_for (length new)) found.base found.end b.left there in
               record {
                 number = rw (other_size q, some);
-                leaves = p ∙ (λ i. paste (t i) base (filled (entries (part base 512 (t i)) ++ (renewed head k i ∷ []))) 512) ∙ put_in;
+                leaves = p ∙ (λ i. paste (t i) found.base (filled (entries (part found.base 512 (t i)) ++ (renewed head k i ∷ []))) 512) ∙ put_in;
               }

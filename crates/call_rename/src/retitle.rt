@@ -6,7 +6,6 @@ ghost use Rattle.files.specs.Lookup.{FileAt};
 ghost use Rattle.call_rename.specs.Renaming.{Renames};
 
 use directory::{EntryAt, entry_size};
-use entries::Space;
 use files::first_entry;
 use model::{Refusal, VolumeFacts};
 
@@ -29,11 +28,11 @@ pub fn rename_file(
         return Ok(());
     }
     match entries::find_room_without(image, first_entry(f), size, e) {
-        Space::Nothing => Err(Refusal::DirectoryFull),
-        Space::At(base, end) => {
+        None => Err(Refusal::DirectoryFull),
+        Some(room) => {
             let head = entries::kept_head(image, e);
             entries::remove_entry(image, e);
-            entries::insert_with_head(image, base, end, &head, new, changed);
+            entries::insert_with_head(image, room, &head, new, changed);
             Ok(())
         }
     }

@@ -3,6 +3,7 @@ pub mod Located
 pub mod Blocks
 pub mod Elsewhere
 pub mod Rooming
+pub mod Searching
 pub mod Titles
 pub mod Inserting
 pub mod OnceOut

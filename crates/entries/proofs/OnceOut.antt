@@ -1,19 +1,20 @@
 -- Laws of the search for room once an entry is out: where the reading of each directory block ends without it.
 use Prim.Native.Nat.{ℕ, ◌+◌, ◌*◌, ◌≤◌, ◌<◌}
-use mathlib.Core.Path.{◌≡◌, refl, sym, ap, subst, ◌∙◌}
-use mathlib.Core.Bool.{true, false}
+use mathlib.Core.Path.{◌≡◌, sym, ap, subst, ◌∙◌}
+use mathlib.Core.Bool.{true}
 use mathlib.Core.List.{List, ◌∷◌, ◌++◌}
 use mathlib.Core.Logic.{◌⊎◌, inl, inr}
 use native.Mathlib.Omega.{arith}
 use native.Mathlib.Decide.{ℕ_discrete, dec_lt}
-use lib.ListN.{length, drop}
+use lib.ListN.{length}
 use lib.Seq.{paste, take_all}
-use Rattle.model.specs.Lists.{every, any, distinct, flat}
+use Rattle.std.specs.Prelude.{Option}
+use Rattle.model.specs.Lists.{every, distinct, flat}
 use Rattle.model.specs.Bytes.{part}
 use Rattle.model.specs.Facts.{dir_start, dir_length}
-use Rattle.model.specs.Directory.{entries, read_end, cut_blocks, directory_blocks, listing, named}
+use Rattle.model.specs.Directory.{entries, read_end, directory_blocks, listing, named}
 use Rattle.model.specs.Check.{same_names}
-use Rattle.model.specs.Calls.{filled, has_room, removed, with_directory}
+use Rattle.model.specs.Calls.{filled, removed, with_directory}
 use Rattle.model.specs.declared.VolumeFacts.{VolumeFacts}
 use Rattle.model.proofs.Lists.{and-true, middle, reordered_every}
 use Rattle.laws.proofs.Block.{sound, split, length_filled, read_filled}
@@ -23,21 +24,15 @@ use Rattle.directory.specs.declared.Cursor.{Cursor}
 use Rattle.directory.specs.declared.EntryAt.{EntryAt}
 use Rattle.directory.specs.Cursor.{bytes_at, Passes, Stands, Lies}
 use Rattle.entries.specs.Blocks.{Block, StandsIn, EndsWithout}
-use Rattle.entries.specs.Rooms.{HasRoom, Roomy, RoomyWithout}
-use Rattle.entries.specs.declared.Space.{Space}
+use Rattle.entries.specs.Rooms.{Roomy, RoomyWithout}
+use Rattle.entries.specs.declared.Room.{Room}
 use Rattle.entries.proofs.Blocks.{block_clean, end_within, starts_within, others_here}
 use Rattle.entries.proofs.Located.{lies_alone, removed_paste}
-use Rattle.entries.proofs.Rooming.{block_of_lem, room_is, room_not, none_more}
+use Rattle.entries.proofs.Rooming.{block_of_lem}
 
 -- the image without the entry
 abbrev pub without : (image : List ℕ) (first blocks : ℕ) (e : EntryAt) → Lies image first blocks e → List ℕ
 without image first blocks e l = paste image (first + 512 * l.index) (filled (l.before ++ l.behind)) 512
-
--- of it, the first i blocks have no room
-abbrev pub NoneWithout : List ℕ → ℕ → ℕ → ℕ → EntryAt → ℕ → Type 0
-NoneWithout image first left size e i =
-    (l : Lies image first (left + 1) e) (after : List ℕ) → after ≡ without image first (left + 1) e l
-    → any (has_room size) (cut_blocks i (drop first after)) ≡ false
 
 -- ---- one block
 
@@ -126,34 +121,12 @@ module _ (image : List ℕ) (c : Cursor) (p : Passes image c) (z : c.at ≡ 0) (
           (end_own end (subst (λ (j : ℕ). EndsWithout image (c.base + 512 * j) e end) h w))
       go (no h) = end_other i end h w
 
--- ---- the search
-
-module _ (image : List ℕ) (c : Cursor) (p : Passes image c) (z : c.at ≡ 0) (e : EntryAt) (s : Stands image e) (size i end : ℕ)
-    (w : EndsWithout image (c.base + 512 * i) e end) (n : NoneWithout image c.base c.left size e i) where
-  pub room_without : end + size ≤ 512 → i ≤ c.left → (l : Lies image c.base (c.left + 1) e) (after : List ℕ)
-      → after ≡ without image c.base (c.left + 1) e l → HasRoom after c.base c.left size (c.base + 512 * i) end
-  room_without h k l after a =
-      let ends = end_after image c p z e s l i end w after a in
-      record {
-        index = i;
-        within = k;
-        block = refl;
-        ends = ends;
-        none = n l after a;
-        room = room_is size (part (c.base + 512 * i) 512 after) (omega arith);
-      }
-
-  pub more_without : 512 < end + size → NoneWithout image c.base c.left size e (i + 1)
-  more_without h l after a =
-      let ends = end_after image c p z e s l i end w after a in
-      none_more size after c.base i (n l after a) (room_not size (part (c.base + 512 * i) 512 after) (omega arith))
-
--- ---- what it finds, of the model's change
+-- ---- what the search finds, of the model's change
 
 module _ (f : VolumeFacts) (image : List ℕ) (e : EntryAt) (l : Lies image (512 * (dir_start f).0) (dir_length f) e) (name : List ℕ)
     (has : named name (bytes_at image e) ≡ true) (differ : distinct same_names (listing (directory_blocks f image)) ≡ true)
     (clean : Cleans (directory_blocks f image)) (within : 512 * (dir_start f).0 + 512 * dir_length f ≤ length image) where
-  pub room_removed : (left size : ℕ) (r : Space) → left + 1 ≡ dir_length f → RoomyWithout image (512 * (dir_start f).0) left size e r
+  pub room_removed : (left size : ℕ) (r : Option Room) → left + 1 ≡ dir_length f → RoomyWithout image (512 * (dir_start f).0) left size e r
       → Roomy (with_directory f image (removed name (directory_blocks f image))) (512 * (dir_start f).0) left size r
   room_removed left size r n w =
       let here : Lies image (512 * (dir_start f).0) (left + 1) e

@@ -22,9 +22,7 @@ use Rattle.laws.proofs.Image.{one_block}
 use Rattle.directory.specs.declared.Cursor.{Cursor}
 use Rattle.directory.specs.Cursor.{block_of, rest_of, Passes}
 use Rattle.entries.specs.Blocks.{Block}
-use Rattle.entries.specs.Rooms.{HasRoom, Roomy}
-use Rattle.entries.specs.declared.Space.{Space}
-use Rattle.entries.specs.declared.Space.TheVariants.{At, Nothing}
+use Rattle.entries.specs.Rooms.{HasRoom}
 use Rattle.entries.proofs.Blocks.{block_clean, cleared_behind}
 use Rattle.entries.proofs.Located.{cut_at}
 
@@ -99,14 +97,6 @@ added_stores image base k e room s z hs hz x y px py =
     ∙ ap (λ (t : List ℕ). paste image base t 512) (sym whole)
 
 -- ---- the room found
-
--- what the search finds, by its case
-module _ (image : List ℕ) (first left size : ℕ) (s : Space) (h : Roomy image first left size s) where
-  pub room_at : (base end : ℕ) → s ≡ At base end → HasRoom image first left size base end
-  room_at base end p = rw p at h
-
-  pub room_none : s ≡ Nothing → any (has_room size) (cut_blocks (left + 1) (drop first image)) ≡ false
-  room_none p = rw p at h
 
 -- of all directory blocks
 pub no_room : (f : VolumeFacts) (image : List ℕ) (left size : ℕ) → left + 1 ≡ dir_length f

@@ -1,37 +1,15 @@
-// Room for an entry to be put in, and the entry put there.
+// An entry put into a directory block that has room for it.
 ghost use Rattle.std.specs.Prelude.{◌≡◌, [], ◌∷◌, ◌++◌, ◌+◌, ◌≤◌, length};
 ghost use Rattle.std.proofs.Math.Seq.{paste};
 ghost use Rattle.model.specs.Bytes.{bytes32, zeros, part};
 ghost use Rattle.model.specs.Directory.{size_for, entries, read_end};
 ghost use Rattle.model.specs.Calls.{new_entry, date_and_name, filled};
-ghost use Rattle.directory.specs.Cursor.{Passes};
 ghost use Rattle.entries.specs.Blocks.{Block};
-ghost use Rattle.entries.specs.Rooms.{Roomy};
 
-use crate::Space;
+use crate::Room;
 use crate::numbers::put32_at;
-use crate::remove::read_end;
 use crate::title::put_date_and_name;
 use directory::{Cursor, EntryAt};
-
-// The first directory block, from a cursor at a block's start on, that has room for so many bytes.
-pub fn find_room(image: &[u8], from: Cursor, size: usize) -> Space
-    requires passes { Passes image.now from }
-    requires at_value { from.at ≡ 0 }
-    requires size_bound { size ≤ 512 }
-    ensures { Roomy image.now from.base from.left size result }
-{
-    let mut i = 0;
-    while i <= from.left {
-        let base = from.base + Cursor::BLOCK * i;
-        let end = read_end(image, base);
-        if end + size <= Cursor::BLOCK {
-            return Space::At(base, end);
-        }
-        i += 1;
-    }
-    Space::Nothing
-}
 
 // Stores bytes from a place on.
 pub fn put_bytes(image: &mut [u8], at: usize, bytes: &[u8])
@@ -41,25 +19,18 @@ pub fn put_bytes(image: &mut [u8], at: usize, bytes: &[u8])
     image[at..at + bytes.len()].copy_from_slice(bytes);
 }
 
-// Puts an entry behind the last one of the directory block at byte base, whose reading ends at place end: its bytes up to the change
-// date are given, then come date and name. Zeros follow it to the block's end.
-pub fn insert_with_head(
-    image: &mut [u8],
-    base: usize,
-    end: usize,
-    head: &[u8; 46],
-    name: &[u8],
-    changed: u32,
-)
-    requires block { Block image.old base }
-    requires end_value { (end ≡ read_end (part base 512 image.old)) × (end + size_for (length name.now) ≤ 512) × (length name.now ≤ 255) }
-    ensures { image.new ≡ paste image.old base (filled (entries (part base 512 image.old) ++ ((head.now ++ date_and_name changed name.now) ∷ []))) 512 }
+// Puts an entry behind the last one of the directory block where the room is: its bytes up to the change date are given, then come
+// date and name. Zeros follow it to the block's end.
+pub fn insert_with_head(image: &mut [u8], room: Room, head: &[u8; 46], name: &[u8], changed: u32)
+    requires block { Block image.old room.base }
+    requires end_value { (room.end ≡ read_end (part room.base 512 image.old)) × (room.end + size_for (length name.now) ≤ 512) × (length name.now ≤ 255) }
+    ensures { image.new ≡ paste image.old room.base (filled (entries (part room.base 512 image.old) ++ ((head.now ++ date_and_name changed name.now) ∷ []))) 512 }
 {
-    let at = base + end;
+    let at = room.base + room.end;
     put_bytes(image, at, head);
     put_date_and_name(image, at, name, changed);
     let behind = at + EntryAt::NAME_AT + name.len();
-    image[behind..base + Cursor::BLOCK].fill(0);
+    image[behind..room.base + Cursor::BLOCK].fill(0);
 }
 
 // The bytes of an empty file's entry up to its change date.
@@ -77,18 +48,17 @@ fn new_head(number: u32, finder: &[u8; 16], created: u32) -> [u8; 46]
 // As `insert_with_head`, for the entry of an empty file.
 pub fn insert_entry(
     image: &mut [u8],
-    base: usize,
-    end: usize,
+    room: Room,
     number: u32,
     name: &[u8],
     finder: &[u8; 16],
     created: u32,
     changed: u32,
 )
-    requires block { Block image.old base }
-    requires end_value { (end ≡ read_end (part base 512 image.old)) × (end + size_for (length name.now) ≤ 512) × (length name.now ≤ 255) }
-    ensures { image.new ≡ paste image.old base (filled (entries (part base 512 image.old) ++ (new_entry number name.now finder.now created changed ∷ []))) 512 }
+    requires block { Block image.old room.base }
+    requires end_value { (room.end ≡ read_end (part room.base 512 image.old)) × (room.end + size_for (length name.now) ≤ 512) × (length name.now ≤ 255) }
+    ensures { image.new ≡ paste image.old room.base (filled (entries (part room.base 512 image.old) ++ (new_entry number name.now finder.now created changed ∷ []))) 512 }
 {
     let head = new_head(number, finder, created);
-    insert_with_head(image, base, end, &head, name, changed);
+    insert_with_head(image, room, &head, name, changed);
 }

@@ -7,21 +7,20 @@ mod fork_fields;
 mod insert;
 mod numbers;
 mod remove;
+mod search;
 mod title;
-mod without;
 
 pub use counts::{put_files, put_free, put_next};
 pub use fork_fields::store_fork;
-pub use insert::{find_room, insert_entry, insert_with_head};
+pub use insert::{insert_entry, insert_with_head};
 pub use numbers::{put16_at, put32_at};
 pub use remove::remove_entry;
+pub use search::{find_room, find_room_without};
 pub use title::{kept_head, rename_entry};
-pub use without::find_room_without;
 
-// Where an entry to be put in has room.
+// Room for an entry to be put in: the byte of the image where its directory block starts, and how far into the block the reading ends.
 #[derive(Clone, Copy)]
-pub enum Space {
-    // The byte of the image where the directory block starts, and how far into the block its reading ends.
-    At(usize, usize),
-    Nothing,
+pub struct Room {
+    pub base: usize,
+    pub end: usize,
 }

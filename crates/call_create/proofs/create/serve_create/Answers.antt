@@ -11,7 +11,6 @@ use Rattle.model.specs.Calls.Call.{create}
 use Rattle.call_create.specs.Adding.{Adds}
 use Rattle.files.proofs.Octets.{octets}
 use Rattle.files.proofs.Lookups.{some_block, first_passes}
-use Rattle.entries.proofs.Rooming.{room_at, room_none}
 use Rattle.call_create.proofs.Creates.{adds, Short, Fresh, fresh, fresh_title}
 use Rattle.call_create.proofs.Creates.{create_locked, create_untitled, create_long, create_exists, create_last, create_full, create_served}
 use Rattle.call_create.proofs.create.serve_create.Goals as goal
@@ -103,10 +102,10 @@ add_file-requires c =
     let short : Short c.args.name.now = record { good = good; short = sym c.too_long.ensures ∙ c.if-too_long.false } in
     let new : Fresh c.args.image.now c.args.name.now = fresh short c.lookup.result c.lookup.ensures (sym c.is_ok.ensures.value ∙ c.if-is_ok.false) in
     let adds_there : let a = c.args in
-    Adds a.f a.image.now (length a.name.now) c.in-At.base c.in-At.end = let title = fresh_title new in
+    Adds a.f a.image.now (length a.name.now) c.in-Some.room.base c.in-Some.room.end = let title = fresh_title new in
     adds c.args.f c.args.image.now c.first_entry.result c.first_entry.ensures (length c.args.name.now)
     c.entry_size.result c.entry_size.ensures _ _
-    (room_at _ _ _ _ c.find_room.result c.find_room.ensures _ _ c.in-At.is) title.some title.short
+    c.in-Some.ensures title.some title.short
     (omega (arith, c.struct_known-1.given, c.if-f-eq-LAST_NUMBER.false)) in
     record {
       readable = c.requires;
@@ -129,9 +128,9 @@ returns-then-is_ok c =
     let short : Short c.args.name.now = record { good = good; short = sym c.too_long.ensures ∙ c.if-too_long.false } in
     create_exists c.requires image_octets fits unlocked short c.lookup.result c.lookup.ensures (sym c.is_ok.ensures.value ∙ c.if-is_ok.true)
 
-pub returns-in-Nothing : goal.returns-in-Nothing
+pub returns-in-None : goal.returns-in-None
 unfolding Fits
-returns-in-Nothing c =
+returns-in-None c =
     let image_octets : Bytes c.args.image.now = octets _ c.slice_known-1.given in
     let fits : Fits (create c.args.name.now c.args.finder.now c.args.created c.args.changed) = (
       octets _ c.type_inv.name,
@@ -146,11 +145,11 @@ returns-in-Nothing c =
     let new : Fresh c.args.image.now c.args.name.now = fresh short c.lookup.result c.lookup.ensures (sym c.is_ok.ensures.value ∙ c.if-is_ok.false) in
     create_full c.requires image_octets fits unlocked new c.if-f-eq-LAST_NUMBER.false
     c.first_entry.ensures c.entry_size.ensures
-    (room_none _ _ _ _ c.find_room.result c.find_room.ensures c.in-Nothing.is)
+    c.in-None.ensures
 
-pub returns-in-At : goal.returns-in-At
+pub returns-in-Some : goal.returns-in-Some
 unfolding Fits
-returns-in-At c =
+returns-in-Some c =
     let image_octets : Bytes c.args.image.now = octets _ c.slice_known-1.given in
     let fits : Fits (create c.args.name.now c.args.finder.now c.args.created c.args.changed) = (
       octets _ c.type_inv.name,
@@ -164,10 +163,10 @@ returns-in-At c =
     let short : Short c.args.name.now = record { good = good; short = sym c.too_long.ensures ∙ c.if-too_long.false } in
     let new : Fresh c.args.image.now c.args.name.now = fresh short c.lookup.result c.lookup.ensures (sym c.is_ok.ensures.value ∙ c.if-is_ok.false) in
     let adds_there : let a = c.args in
-    Adds a.f a.image.now (length a.name.now) c.in-At.base c.in-At.end = let title = fresh_title new in
+    Adds a.f a.image.now (length a.name.now) c.in-Some.room.base c.in-Some.room.end = let title = fresh_title new in
     adds c.args.f c.args.image.now c.first_entry.result c.first_entry.ensures (length c.args.name.now)
     c.entry_size.result c.entry_size.ensures _ _
-    (room_at _ _ _ _ c.find_room.result c.find_room.ensures _ _ c.in-At.is) title.some title.short
+    c.in-Some.ensures title.some title.short
     (omega (arith, c.struct_known-1.given, c.if-f-eq-LAST_NUMBER.false)) in
     create_served c.requires image_octets fits unlocked new c.if-f-eq-LAST_NUMBER.false
     adds_there c.add_file.ensures

@@ -68,21 +68,17 @@ insert_with_head-requires c =
     let without : c.remove_entry.new.image ≡ out c.requires.file_at = taken_out c.requires.file_at _ c.remove_entry.ensures in
     let q = c.entry_size-size.ensures in
     let w = without in record {
-      block = kept_block c.requires.file_at c.args.new.now c.requires.value c.args.changed differ c.first_entry.ensures _ q _
-          c.find_room_without.ensures _ _ c.in-At.is _ w;
-      end_value = kept_behind c.requires.file_at c.args.new.now c.requires.value c.args.changed differ c.first_entry.ensures _ q _
-          c.find_room_without.ensures _ _ c.in-At.is _ w;
+      block = kept_block c.requires.file_at c.args.new.now c.requires.value c.args.changed differ c.first_entry.ensures _ q _ c.in-Some.ensures _ w;
+      end_value = kept_behind c.requires.file_at c.args.new.now c.requires.value c.args.changed differ c.first_entry.ensures _ q _ c.in-Some.ensures _ w;
     }
 
-pub returns-in-Nothing : goal.returns-in-Nothing
-returns-in-Nothing c h =
+pub returns-in-None : goal.returns-in-None
+returns-in-None c h =
     let differ : let a = c.args in size_for (length a.new.now) ≡ size_for a.e.name_length → ⊥ = λ p. c.if-size-entry_size.false (c.entry_size-size.ensures ∙ p ∙ sym c.entry_size.ensures) in
-    stuck h c.args.new.now c.requires.value c.args.changed differ c.first_entry.ensures _ c.entry_size-size.ensures _
-    c.find_room_without.ensures c.in-Nothing.is
+    stuck h c.args.new.now c.requires.value c.args.changed differ c.first_entry.ensures _ c.entry_size-size.ensures c.in-None.ensures
 
-pub returns-in-At : goal.returns-in-At
-returns-in-At c h =
+pub returns-in-Some : goal.returns-in-Some
+returns-in-Some c h =
     let differ : let a = c.args in size_for (length a.new.now) ≡ size_for a.e.name_length → ⊥ = λ p. c.if-size-entry_size.false (c.entry_size-size.ensures ∙ p ∙ sym c.entry_size.ensures) in
-    moves h c.args.new.now c.requires.value c.args.changed differ c.first_entry.ensures _ c.entry_size-size.ensures _
-    c.find_room_without.ensures _ _ c.in-At.is _ _ _ (taken_out h _ c.remove_entry.ensures) c.kept_head-head.ensures
+    moves h c.args.new.now c.requires.value c.args.changed differ c.first_entry.ensures _ c.entry_size-size.ensures _ c.in-Some.ensures _ _ _ (taken_out h _ c.remove_entry.ensures) c.kept_head-head.ensures
     c.insert_with_head.ensures

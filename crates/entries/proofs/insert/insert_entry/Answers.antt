@@ -14,5 +14,5 @@ returns c =
     let a = c.args in
     let image = a.image.now in
     c.insert_with_head.ensures
-    ∙ ap (λ (e : List ℕ). paste image a.base (filled (entries (part a.base 512 image) ++ (e ∷ []))) 512)
+    ∙ ap (λ (e : List ℕ). paste image a.room.base (filled (entries (part a.room.base 512 image) ++ (e ∷ []))) 512)
     (new_parts a.number a.finder.now a.created a.name.now a.changed _ c.new_head-head.ensures)

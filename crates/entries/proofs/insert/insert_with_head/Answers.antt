@@ -28,13 +28,13 @@ joined s l = omega arith
 pub put_bytes-requires : goal.put_bytes-requires
 unfolding padded
 put_bytes-requires c =
-    let room : c.args.end + (51 + length c.args.name.now) ≤ 512 = let h = c.requires.end_value.1 in omega arith in
+    let room : c.args.room.end + (51 + length c.args.name.now) ≤ 512 = let h = c.requires.end_value.1 in omega arith in
     head_within _ _ _ _ _ room c.requires.block.within refl _ c.told-head
 
 pub put_date_and_name-requires : goal.put_date_and_name-requires
 unfolding padded
 put_date_and_name-requires c =
-    let room : c.args.end + (51 + length c.args.name.now) ≤ 512 = let h = c.requires.end_value.1 in omega arith in
+    let room : c.args.room.end + (51 + length c.args.name.now) ≤ 512 = let h = c.requires.end_value.1 in omega arith in
     (title_within _ _ _ _ _ room c.requires.block.within c.put_bytes.auto.image, c.requires.end_value.2)
 
 pub slice_bounds-fill-count : goal.slice_bounds-fill-count
@@ -48,9 +48,9 @@ slice_bounds-fill-start c = end_within _ _ _ (let h = c.requires.end_value.1 in 
 pub returns : goal.returns
 returns c =
     let a = c.args in
-    let behind = a.base + a.end + 51 + length a.name.now in
+    let behind = a.room.base + a.room.end + 51 + length a.name.now in
     let kept : length c.put_date_and_name.new.image ≡ length a.image.now = c.put_date_and_name.auto.image ∙ c.put_bytes.auto.image in
-    let cleared = zeros_put behind (a.base + 512) _ _ (omega (arith, c.requires.block.within)) (c.fill.ensures.after (λ y e. e)) in
-    kept_stores a.head.now a.name.now a.changed c.told-head a.image.now a.base a.end
+    let cleared = zeros_put behind (a.room.base + 512) _ _ (omega (arith, c.requires.block.within)) (c.fill.ensures.after (λ y e. e)) in
+    kept_stores a.head.now a.name.now a.changed c.told-head a.image.now a.room.base a.room.end
     c.requires.block c.requires.end_value.0 c.requires.end_value.1 _ _ _ c.put_bytes.ensures c.put_date_and_name.ensures
     behind _ (joined _ _) refl cleared

@@ -11,8 +11,9 @@ use Rattle.model.specs.Directory.{size_for, read_end}
 use Rattle.directory.specs.declared.EntryAt.{EntryAt}
 use Rattle.directory.specs.Cursor.{Stands, Lies}
 use Rattle.entries.specs.Blocks.{Block}
-use Rattle.entries.proofs.Blocks.{starts_within, others_here}
-use Rattle.entries.proofs.without.end_without.Goals as goal
+use Rattle.entries.proofs.Blocks.{start_here, starts_within, others_here}
+use Rattle.entries.proofs.search.end_without.Goals as goal
+use Rattle.entries.proofs.search.end_without.Goals.{else-base-e-via-then-base-e+else-e-base, else-base-e-via-else-base-e}
 
 -- without the entry, the others' bytes are left
 others_left : (image : List ℕ) (base : ℕ) (e : EntryAt) → Block image base → Stands image e → (size end : ℕ)
@@ -33,28 +34,36 @@ outside : (a s : ℕ) → a ≤ s → s < a + 512 → (s < a) ⊎ (a + 512 ≤ s
 outside a s h k (inl x) = omega arith
 outside a s h k (inr x) = omega arith
 
-pub returns-then-base-start : goal.returns-then-base-start
-returns-then-base-start c =
-    record {
-      own = λ l. absurd (omega (arith, starts_within c.args.image.now c.args.base c.args.e c.requires.block c.requires.stands l));
-      other = λ _. c.read_end-end.ensures.0;
-      most = c.read_end-end.ensures.1;
-    }
-
 -- the entry begins in the block, so it is one of the block's
 pub overflow_sub-result : goal.overflow_sub-result
 overflow_sub-result c =
     let a = c.args in
-    let here = c.requires.stands_in c.if-start-base.false c.if-base-start.false in
+    let here = c.requires.stands_in c.if-base-e.true c.if-e-base.true in
     let left = others_left a.image.now a.base a.e c.requires.block c.requires.stands _ _ c.entry_size.ensures c.read_end-end.ensures.0 in
     size_below _ _ _ (left here)
 
-pub returns : goal.returns
-returns c =
+pub returns-then-e-base : goal.returns-then-e-base
+returns-then-e-base c =
     let a = c.args in
     let left = others_left a.image.now a.base a.e c.requires.block c.requires.stands _ _ c.entry_size.ensures c.read_end-end.ensures.0 in
     record {
       own = λ l. without _ _ _ (left l);
-      other = λ o. absurd (outside _ _ c.if-start-base.false c.if-base-start.false o);
+      other = λ o. absurd (outside _ _ c.if-base-e.true c.if-e-base.true o);
       most = below _ _ c.read_end-end.ensures.1;
+    }
+
+pub returns-else-base-e : goal.returns-else-base-e
+returns-else-base-e c =
+    let a = c.args in
+    let own : (l : Lies a.image.now a.base 1 a.e) → ⊥
+    = λ l. let low = start_here a.image.now a.base a.e c.requires.block c.requires.stands l in
+    let high = starts_within a.image.now a.base a.e c.requires.block c.requires.stands l in
+    elim c.else-base-e.branch [
+      | else-base-e-via-then-base-e+else-e-base w ↦ omega (arith, w.if-e-base.false)
+      | else-base-e-via-else-base-e w ↦ omega (arith, w.if-base-e.false)
+    ] in
+    record {
+      own = λ l. absurd (own l);
+      other = λ _. c.read_end-end.ensures.0;
+      most = c.read_end-end.ensures.1;
     }
