@@ -1,27 +1,15 @@
 -- Laws of wrapping: the lengths that it asks for, and how the stores make the header and fill the buffer.
-use Rattle.std.proofs.Common.{◌≡◌, ℕ, suc, ◌+◌, ◌-◌, ◌≤◌, true, false, not, eqb, ltb, List, [], ◌∷◌, ◌++◌, length, take, drop, set, refl, ap, ◌∙◌, append-nil, arith, length-append, length-drop, drop_of_length-le, take_all, take_at, ltb-false, eq-eqb, ne_eqb, eqb-true}
+use Rattle.std.proofs.Common.{◌≡◌, ℕ, suc, ◌+◌, ◌-◌, ◌≤◌, false, not, eqb, List, ◌∷◌, ◌++◌, length, take, drop, set, refl, ap, ◌∙◌, append-nil, arith, drop_of_length-le, take_at, drop_at, ltb-false, eqb-true}
 use lib.ListN.{length-replicate}
 use lib.Seq.{sets, paste, take-length, drop-append-le}
+use borrow.Rule.Slice.PartMut.{put_mid}
 use borrow.Author.Tests.{not-false}
 use Rattle.model.specs.Bytes.{bytes16, bytes32, zeros}
 use Rattle.model.specs.Container.{bad_lengths, fixed_fields, header_for}
 use Rattle.model.proofs.Bytes.{drop_zeros}
 use Rattle.model.proofs.Lists.{or-false}
-use Rattle.model.proofs.Copies.{paste_start}
 
 -- ---- lengths
-
-pub bad_image : (image buffer name : ℕ) → (image ≡ 409600 → ⊥) → true ≡ bad_lengths image buffer name
-unfolding bad_lengths
-bad_image image buffer name h = rw (ne_eqb image 409600 h)
-
-pub bad_buffer : (image buffer name : ℕ) → image ≡ 409600 → (buffer ≡ 409684 → ⊥) → true ≡ bad_lengths image buffer name
-unfolding bad_lengths
-bad_buffer image buffer name h k = rw (eq-eqb image 409600 h, ne_eqb buffer 409684 k)
-
-pub bad_name_lem : (image buffer name : ℕ) → image ≡ 409600 → buffer ≡ 409684 → ltb 63 name ≡ bad_lengths image buffer name
-unfolding bad_lengths
-bad_name_lem image buffer name h k = rw (eq-eqb image 409600 h, eq-eqb buffer 409684 k)
 
 -- what is known where 22 does not fire
 pub good_lengths : (image buffer name : ℕ) → bad_lengths image buffer name ≡ false → (buffer ≡ 409684) × (image ≡ 409600) × (name ≤ 63)
@@ -65,17 +53,7 @@ header_made name format sum h sized summed marked left p q r s =
 
 -- ---- the buffer
 
--- two lists, one behind the other, over all of it
-pub filled : (buffer header image : List ℕ) (n : ℕ) → length header ≡ n → length buffer ≡ n + length image → (first left : List ℕ)
-    → first ≡ paste buffer 0 header n
-    → left ≡ paste first n image (length image)
-    → left ≡ header ++ image
-filled buffer header image n h b first left p q =
-    let m = length image in
-    let rest = drop n buffer in
-    let start : first ≡ header ++ rest = p ∙ paste_start buffer header n ∙ ap (λ (l : List ℕ). l ++ rest) (take_all n header (omega arith)) in
-    let end : drop (n + m) (header ++ rest) ≡ [] =
-    drop_of_length-le (header ++ rest) {i = n + m} (omega (arith, length-append header rest, length-drop n buffer))
-    in
-    q ∙ ap (λ (l : List ℕ). paste l n image m) start
-    ∙ rw (take_at header rest n h, take-length image, end) (append-nil (header ++ image))
+-- a header over a buffer's start, and a list over all the rest
+pub filled : (header rest image : List ℕ) (n k : ℕ) → length header ≡ n → length rest ≤ k → put_mid n k (header ++ rest) image ≡ header ++ image
+filled header rest image n k h b =
+    rw (take_at header rest n h, drop_at header rest n h, drop_of_length-le rest b) (ap (λ (l : List ℕ). header ++ l) (append-nil image))

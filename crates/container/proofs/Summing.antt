@@ -1,7 +1,8 @@
--- Laws of the checksum: how two shifts turn the sum, and how a loop takes in one word after another.
-use Rattle.std.proofs.Common.{◌≡◌, ℕ, suc, ◌+◌, ◌*◌, ◌/◌, ◌%◌, ◌^◌, ◌<◌, ◌≤◌, List, [], ◌∷◌, length, drop, sym, refl, ap, ◌∙◌, arith, drop-cons}
+-- Laws of the checksum: how the sum is turned, and how a loop takes in one word after another.
+use Rattle.std.proofs.Common.{◌≡◌, ℕ, suc, ◌+◌, ◌*◌, ◌/◌, ◌%◌, ◌^◌, ◌<◌, List, [], ◌∷◌, length, drop, refl, ap, ◌∙◌, arith, drop-cons, zero, get_or, add-one}
 use lib.Bits.{bit_or, or_shifted_r}
-use Rattle.model.specs.Bytes.{byte, be16}
+use Rattle.std.specs.Int.{w16, from_be_bytes}
+use Rattle.std.specs.Simd.{first_chunks}
 use Rattle.model.specs.Container.{turned, added, summed}
 
 -- two shifts turn a 32-bit sum
@@ -12,24 +13,22 @@ turns s h =
     let low : s / 2 < 2 ^ 31 = omega arith in
     ap (bit_or (s / 2)) high ∙ or_shifted_r (s % 2) 31 (s / 2) low ∙ (omega arith)
 
--- one word more
-pub next : (bytes : List ℕ) (sum i : ℕ) → i + 1 < length bytes → summed (added sum (be16 bytes i)) (drop (i + 2) bytes) ≡ summed sum (drop i bytes)
-unfolding summed be16
-next bytes sum i h =
-    let p : suc i ≡ i + 1 = omega arith in
-    let q : suc (i + 1) ≡ i + 2 = omega arith in
-    let first : drop i bytes ≡ byte bytes i ∷ drop (i + 1) bytes =
-    drop-cons bytes i 0 (omega arith) ∙ ap (λ (k : ℕ). byte bytes i ∷ drop k bytes) p
-    in
-    let second : drop (i + 1) bytes ≡ byte bytes (i + 1) ∷ drop (i + 2) bytes =
-    drop-cons bytes (i + 1) 0 h ∙ ap (λ (k : ℕ). byte bytes (i + 1) ∷ drop k bytes) q
-    in
-    let both : drop i bytes ≡ byte bytes i ∷ byte bytes (i + 1) ∷ drop (i + 2) bytes = first ∙ ap (λ (l : List ℕ). byte bytes i ∷ l) second in
-    sym (ap (summed sum) both)
+-- words added one after another
+abbrev pub with_words : ℕ → List (List ℕ) → ℕ
+with_words sum [] = sum
+with_words sum (word ∷ words) = with_words (added sum (from_be_bytes w16 word)) words
 
--- no word is left
-pub ends : (rest : List ℕ) (sum : ℕ) → length rest ≤ 1 → summed sum rest ≡ sum
+-- all the words of the bytes
+pub all_words : (bytes : List ℕ) (sum n : ℕ) → n ≡ length bytes / 2 → with_words sum (first_chunks 2 n bytes) ≡ summed sum bytes
 unfolding summed
-ends [] sum h = refl
-ends (x ∷ []) sum h = refl
-ends (x ∷ y ∷ rest) sum h = absurd (omega arith)
+all_words [] sum zero h = refl
+all_words [] sum (suc n) h = absurd (omega arith)
+all_words (x ∷ []) sum zero h = refl
+all_words (x ∷ []) sum (suc n) h = absurd (omega arith)
+all_words (x ∷ y ∷ rest) sum zero h = absurd (omega arith)
+all_words (x ∷ y ∷ rest) sum (suc n) h = all_words rest (added sum (x * 256 + y)) n (omega arith)
+
+-- one word more
+pub next_word : (words : List (List ℕ)) (sum i : ℕ) (d : List ℕ) → i < length words
+    → with_words (added sum (from_be_bytes w16 (get_or words i d))) (drop (i + 1) words) ≡ with_words sum (drop i words)
+next_word words sum i d h = rw (add-one, drop-cons words i d)

@@ -33,8 +33,6 @@ const TAG_SIZE: u32 = 9600;
 
 pub const UNTAGGED_SIZE: usize = 409684;
 
-const TAGGED_SIZE: usize = 419284;
-
 // The tag sum leaves out the first bytes.
 const LEFT_OUT: usize = 12;
 
@@ -44,40 +42,19 @@ pub const MARK: u16 = 0x100;
 fn bad_size(size: usize, tag: u32) -> bool
     ensures { result ≡ bad_size size tag }
 {
-    if tag == 0 {
-        return size != UNTAGGED_SIZE;
-    }
-    if tag == TAG_SIZE {
-        return size != TAGGED_SIZE;
-    }
-    true
+    (tag != 0 && tag != TAG_SIZE) || size != UNTAGGED_SIZE + tag as usize
 }
 
 // 22.
 fn bad_header(file: &[u8]) -> bool
     ensures { result ≡ fires22 file.now }
 {
-    if file.len() < UNTAGGED_SIZE {
-        return true;
-    }
-    let tag = be32_at(file, TAG_SIZE_AT);
-    if bad_size(file.len(), tag) {
-        return true;
-    }
-    let name = file[NAME_LENGTH_AT];
-    if MOST_NAME < name {
-        return true;
-    }
-    let size = be32_at(file, DATA_SIZE_AT);
-    if size != DATA_SIZE {
-        return true;
-    }
-    let encoding = file[ENCODING_AT];
-    if encoding != 0 {
-        return true;
-    }
-    let mark = be16_at(file, MARK_AT);
-    mark != MARK
+    file.len() < UNTAGGED_SIZE
+        || bad_size(file.len(), be32_at(file, TAG_SIZE_AT))
+        || MOST_NAME < file[NAME_LENGTH_AT]
+        || be32_at(file, DATA_SIZE_AT) != DATA_SIZE
+        || file[ENCODING_AT] != 0
+        || be16_at(file, MARK_AT) != MARK
 }
 
 // The tag sum: it is 0 without tags.
@@ -85,11 +62,10 @@ fn tag_sum(file: &[u8]) -> u32
     requires { 409684 ≤ length file.now }
     ensures { result ≡ tag_checksum (tags file.now) }
 {
-    let behind = tags(file);
-    if behind.len() < LEFT_OUT {
-        return 0;
+    match tags(file).get(LEFT_OUT..) {
+        Some(counted) => checksum(counted),
+        None => 0,
     }
-    checksum(&behind[LEFT_OUT..])
 }
 
 // The first of 22, 23 and 24 that fires, or 0.

@@ -9,19 +9,12 @@ use crate::header::{
 use crate::parts::DATA_AT;
 use crate::sum::checksum;
 use entries::{put16_at, put32_at};
-use model::copy_part;
 
 // 22.
 pub fn bad_lengths(image: usize, buffer: usize, name: usize) -> bool
     ensures { result ≡ bad_lengths image buffer name }
 {
-    if image != DATA_SIZE as usize {
-        return true;
-    }
-    if buffer != UNTAGGED_SIZE {
-        return true;
-    }
-    (MOST_NAME as usize) < name
+    image != DATA_SIZE as usize || buffer != UNTAGGED_SIZE || (MOST_NAME as usize) < name
 }
 
 // The header of a file without tags.
@@ -29,13 +22,13 @@ fn new_header(name: &[u8], format: u8, sum: u32) -> [u8; 84]
     requires { length name.now ≤ 63 }
     ensures { result ≡ header_for name.now format sum }
 {
-    let mut header = [0; 84];
+    let mut header = [0; DATA_AT];
     header[NAME_LENGTH_AT] = name.len() as u8;
     header[FORMAT_AT] = format;
     put32_at(&mut header, DATA_SIZE_AT, DATA_SIZE);
     put32_at(&mut header, DATA_SUM_AT, sum);
     put16_at(&mut header, MARK_AT, MARK);
-    copy_part(name, 0, &mut header, NAME_AT, name.len());
+    header[NAME_AT..NAME_AT + name.len()].copy_from_slice(name);
     header
 }
 
@@ -44,7 +37,6 @@ pub fn fill(buffer: &mut [u8], image: &[u8], name: &[u8], format: u8)
     requires { (length buffer.old ≡ 409684) × (length image.now ≡ 409600) × (length name.now ≤ 63) }
     ensures { buffer.new ≡ wrapping image.now name.now format }
 {
-    let header = new_header(name, format, checksum(image));
-    copy_part(&header, 0, buffer, 0, DATA_AT);
-    copy_part(image, 0, buffer, DATA_AT, image.len());
+    buffer[..DATA_AT].copy_from_slice(&new_header(name, format, checksum(image)));
+    buffer[DATA_AT..].copy_from_slice(image);
 }

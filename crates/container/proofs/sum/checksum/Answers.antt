@@ -1,25 +1,19 @@
--- `checksum` meets its contract. The loop's invariant: the sum so far, with the words that are left, comes to the checksum.
--- Assumes nothing.
-use Rattle.std.proofs.Common.{◌≡◌, ◌+◌, drop, sym, refl, ap, ◌∙◌, arith, length-drop}
-use Rattle.model.specs.Bytes.{be16}
-use Rattle.model.specs.Container.{added, summed, checksum}
-use Rattle.container.proofs.Summing.{next, ends}
+-- `checksum` meets its contract. Assumes nothing.
+use Rattle.std.proofs.Common.{◌+◌, drop, refl, sym, ap, ◌∙◌, drop_of_length-le}
+use Rattle.model.specs.Container.{added, checksum}
+use Rattle.container.proofs.Summing.{with_words, all_words, next_word}
 use Rattle.container.proofs.sum.checksum.Goals as goal
 
-pub loop-i-init : goal.loop-i-init
+pub loop-word-init : goal.loop-word-init
 unfolding checksum
-loop-i-init c = (omega arith, refl)
+loop-word-init c = ap (with_words 0) c.as_chunks.ensures.front ∙ all_words c.args.bytes.now 0 _ refl
 
-pub add-sum-requires : goal.add-sum-requires
-add-sum-requires c = tt
-
-pub loop-i-preserved : goal.loop-i-preserved
-loop-i-preserved c =
-    let bytes = c.args.bytes.now in
-    let sum : c.add-sum.result ≡ added c.loop-i.sum (be16 bytes c.loop-i.i) = c.add-sum.ensures ∙ ap (added c.loop-i.sum) c.be16_at.ensures in
-    (omega arith, ap (λ s. summed s (drop (c.loop-i.i + 2) bytes)) sum ∙ next bytes c.loop-i.sum c.loop-i.i (omega arith) ∙ c.loop-i.invariant.1)
+pub loop-word-preserved : goal.loop-word-preserved
+loop-word-preserved c =
+    let words = c.as_chunks.result.0.now in
+    let l = c.loop-word in
+    ap (λ sum. with_words sum (drop (l.word-index + 1) words)) (c.add-sum.ensures ∙ ap (added l.sum) c.from_be_bytes.ensures)
+    ∙ next_word words l.sum l.word-index _ c.loop-word-test.true ∙ l.invariant
 
 pub returns : goal.returns
-returns c =
-    let bytes = c.args.bytes.now in
-    sym (ends (drop c.loop-i.i bytes) c.loop-i.sum (omega (arith, length-drop c.loop-i.i bytes))) ∙ c.loop-i.invariant.1
+returns c = sym (ap (with_words c.loop-word.sum) (drop_of_length-le _ c.loop-word-test.false)) ∙ c.loop-word.invariant

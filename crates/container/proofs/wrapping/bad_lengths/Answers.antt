@@ -1,12 +1,13 @@
 -- `bad_lengths` meets its contract. Assumes nothing.
-use Rattle.container.proofs.Filling.{bad_image, bad_buffer, bad_name_lem}
+use Rattle.std.proofs.Common.{arith}
+use Rattle.std.proofs.lemmas.Bool.Decides.{nat_tests}
+use Rattle.model.specs.Container.{bad_lengths}
 use Rattle.container.proofs.wrapping.bad_lengths.Goals as goal
 
-pub returns-then-image : goal.returns-then-image
-returns-then-image c = bad_image _ _ _ c.if-image.true
-
 pub returns-then-buffer-ne-UNTAGGED_SIZE : goal.returns-then-buffer-ne-UNTAGGED_SIZE
-returns-then-buffer-ne-UNTAGGED_SIZE c = bad_buffer _ _ _ c.if-image.false c.if-buffer-ne-UNTAGGED_SIZE.true
+unfolding bad_lengths
+returns-then-buffer-ne-UNTAGGED_SIZE c = grind (arith, nat_tests)
 
-pub returns : goal.returns
-returns c = bad_name_lem _ _ _ c.if-image.false c.if-buffer-ne-UNTAGGED_SIZE.false
+pub returns-else-buffer-ne-UNTAGGED_SIZE : goal.returns-else-buffer-ne-UNTAGGED_SIZE
+unfolding bad_lengths
+returns-else-buffer-ne-UNTAGGED_SIZE c = grind (arith, nat_tests)
