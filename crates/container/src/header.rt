@@ -1,10 +1,11 @@
 // The header of a Disk Copy 4.2 file, and refusals 22 to 24.
 ghost use Rattle.std.specs.Prelude.{◌≡◌, ◌≤◌, length};
 ghost use Rattle.model.specs.Container.{tags, tag_checksum, bad_size, fires22, container_verdict};
+ghost use Rattle.model.specs.Refusals.{done_number};
 
 use crate::parts::{data, tags};
 use crate::sum::checksum;
-use model::{be16_at, be32_at};
+use model::{Refusal, be16_at, be32_at};
 
 // Where the header's fields stand, what they hold, and how long a file is.
 pub const NAME_LENGTH_AT: usize = 0;
@@ -68,22 +69,17 @@ fn tag_sum(file: &[u8]) -> u32
     }
 }
 
-// The first of 22, 23 and 24 that fires, or 0.
-pub fn judge(file: &[u8]) -> u8
-    ensures { result ≡ container_verdict file.now }
+// The first of 22, 23 and 24 that fires.
+pub fn judge(file: &[u8]) -> Result<(), Refusal>
+    ensures { done_number result ≡ container_verdict file.now }
 {
     if bad_header(file) {
-        return 22;
+        Err(Refusal::BadHeader)
+    } else if be32_at(file, DATA_SUM_AT) != checksum(data(file)) {
+        Err(Refusal::BadDataSum)
+    } else if be32_at(file, TAG_SUM_AT) != tag_sum(file) {
+        Err(Refusal::BadTagSum)
+    } else {
+        Ok(())
     }
-    let sum = be32_at(file, DATA_SUM_AT);
-    let counted = checksum(data(file));
-    if sum != counted {
-        return 23;
-    }
-    let sum = be32_at(file, TAG_SUM_AT);
-    let counted = tag_sum(file);
-    if sum != counted {
-        return 24;
-    }
-    0
 }

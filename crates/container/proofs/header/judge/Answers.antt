@@ -1,59 +1,34 @@
 -- `judge` meets its contract: its tests are 22, 23 and 24, in their order. Assumes nothing.
-use Rattle.std.proofs.Common.{◌≡◌, ℕ, ◌≤◌, false, List, length, sym, ap, ◌∙◌, arith}
-use Rattle.model.specs.Container.{inside, data_sum, checksum, fires22}
-use Rattle.model.proofs.Container.{header_room, by_22, by_23, by_24, by_none}
+use Rattle.std.proofs.Common.{sym, arith}
+use Rattle.std.proofs.lemmas.Bool.Decides.{nat_tests}
+use Rattle.model.specs.Container.{fires23, fires24, container_verdict}
+use Rattle.model.proofs.Container.{header_room}
 use Rattle.container.proofs.header.judge.Goals as goal
 
-pub returns-then-bad_header : goal.returns-then-bad_header
-returns-then-bad_header c = by_22 _ (sym c.bad_header.ensures ∙ c.if-bad_header.true)
-
-pub be32_at-sum-requires : goal.be32_at-sum-requires
-be32_at-sum-requires c =
-    let file : List ℕ = c.args.file.now in
-    let passes : fires22 file ≡ false = sym c.bad_header.ensures ∙ c.if-bad_header.false in
-    let room : 409684 ≤ length file = header_room file passes in
-    omega (arith, room)
+pub be32_at-requires : goal.be32_at-requires
+be32_at-requires c = omega (arith, header_room _ (sym c.if-bad_header.ensures))
 
 pub data-requires : goal.data-requires
-data-requires c =
-    let file : List ℕ = c.args.file.now in
-    let passes : fires22 file ≡ false = sym c.bad_header.ensures ∙ c.if-bad_header.false in
-    let room : 409684 ≤ length file = header_room file passes in
-    room
+data-requires c = header_room _ (sym c.if-bad_header.ensures)
 
-pub returns-then-sum-counted : goal.returns-then-sum-counted
-returns-then-sum-counted c =
-    let file : List ℕ = c.args.file.now in
-    let passes : fires22 file ≡ false = sym c.bad_header.ensures ∙ c.if-bad_header.false in
-    let counts : c.checksum-counted.result ≡ checksum (inside file) = c.checksum-counted.ensures ∙ ap checksum c.data.ensures in
-    by_23 _ passes (λ d. c.if-sum-counted.true (c.be32_at-sum.ensures ∙ d ∙ sym counts))
+pub be32_at-requires-else-be32_at-checksum : goal.be32_at-requires-else-be32_at-checksum
+be32_at-requires-else-be32_at-checksum c = omega (arith, header_room c.args.file.now (sym c.if-bad_header.ensures))
 
-pub be32_at-sum-requires-2 : goal.be32_at-sum-requires-2
-be32_at-sum-requires-2 c =
-    let file : List ℕ = c.args.file.now in
-    let passes : fires22 file ≡ false = sym c.bad_header.ensures ∙ c.if-bad_header.false in
-    let room : 409684 ≤ length file = header_room file passes in
-    omega (arith, room)
+pub tag_sum-requires : goal.tag_sum-requires
+tag_sum-requires c = header_room _ (sym c.if-bad_header.ensures)
 
-pub tag_sum-counted-requires : goal.tag_sum-counted-requires
-tag_sum-counted-requires c =
-    let file : List ℕ = c.args.file.now in
-    let passes : fires22 file ≡ false = sym c.bad_header.ensures ∙ c.if-bad_header.false in
-    let room : 409684 ≤ length file = header_room file passes in
-    room
+pub returns-then-bad_header : goal.returns-then-bad_header
+unfolding container_verdict fires23 fires24
+returns-then-bad_header c = grind (arith, nat_tests)
 
-pub returns-then-sum-counted-2 : goal.returns-then-sum-counted-2
-returns-then-sum-counted-2 c =
-    let file : List ℕ = c.args.file.now in
-    let passes : fires22 file ≡ false = sym c.bad_header.ensures ∙ c.if-bad_header.false in
-    let counts : c.checksum-counted.result ≡ checksum (inside file) = c.checksum-counted.ensures ∙ ap checksum c.data.ensures in
-    let counted : let f = file in data_sum f ≡ checksum (inside f) = sym c.be32_at-sum.ensures ∙ c.if-sum-counted.false ∙ counts in
-    by_24 _ passes counted (λ t. c.if-sum-counted-2.true (c.be32_at-sum-2.ensures ∙ t ∙ sym c.tag_sum-counted.ensures))
+pub returns-then-be32_at-checksum : goal.returns-then-be32_at-checksum
+unfolding container_verdict fires23 fires24
+returns-then-be32_at-checksum c = grind (arith, nat_tests)
 
-pub returns : goal.returns
-returns c =
-    let file : List ℕ = c.args.file.now in
-    let passes : fires22 file ≡ false = sym c.bad_header.ensures ∙ c.if-bad_header.false in
-    let counts : c.checksum-counted.result ≡ checksum (inside file) = c.checksum-counted.ensures ∙ ap checksum c.data.ensures in
-    let counted : let f = file in data_sum f ≡ checksum (inside f) = sym c.be32_at-sum.ensures ∙ c.if-sum-counted.false ∙ counts in
-    by_none _ passes counted (sym c.be32_at-sum-2.ensures ∙ c.if-sum-counted-2.false ∙ c.tag_sum-counted.ensures)
+pub returns-then-be32_at-tag_sum : goal.returns-then-be32_at-tag_sum
+unfolding container_verdict fires23 fires24
+returns-then-be32_at-tag_sum c = grind (arith, nat_tests)
+
+pub returns-else-be32_at-tag_sum : goal.returns-else-be32_at-tag_sum
+unfolding container_verdict fires23 fires24
+returns-else-be32_at-tag_sum c = grind (arith, nat_tests)
