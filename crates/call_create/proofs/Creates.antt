@@ -22,7 +22,7 @@ use Rattle.model.specs.declared.VolumeFacts.{VolumeFacts}
 use Rattle.directory.specs.declared.Cursor.{Cursor}
 use Rattle.call_create.specs.Adding.{Adds, with_file}
 use Rattle.files.specs.Lookup.{Readable, Names}
-use Rattle.files.specs.declared.Named.{Named}
+use Rattle.directory.specs.declared.Found.{Found}
 use Rattle.model.specs.declared.refusal.Refusal.{Refusal}
 use Rattle.call_create.proofs.Added.{adds_some}
 use Rattle.files.proofs.Lookups.{missed_none}
@@ -61,7 +61,7 @@ pub record Fresh (image name : List ℕ) : Type 0 where
   pub title : Short name
   pub none : any (named name) (directory image) ≡ false
 
-pub fresh : {image name : List ℕ} → Short name → (r : Result Named Refusal) → Names image name r → is_ok r ≡ false → Fresh image name
+pub fresh : {image name : List ℕ} → Short name → (r : Result Found Refusal) → Names image name r → is_ok r ≡ false → Fresh image name
 fresh s (Ok named) m z = absurd (cc)
 fresh s (Err refusal) m z = record { title = s; none = missed_none s.good m }
 
@@ -83,7 +83,7 @@ module _ {f : VolumeFacts} {image : List ℕ} (r : Readable f image) (octets : B
     unfolding checks refuses carries known_in name_of fork_given lent
     create_long g t = let l' = rw r.facts at l in refuse r octets (create name finder made changed) 21 fits refl (rw (l', g, t)) (λ z. omega arith) refl
 
-    pub create_exists : Short name → (n : Result Named Refusal) → Names image name n → is_ok n ≡ true
+    pub create_exists : Short name → (n : Result Found Refusal) → Names image name n → is_ok n ≡ true
         → Does (create name finder made changed) image (only 14 []) image
     unfolding checks refuses carries known_in name_of fork_given lent
     create_exists s (Err refusal) h z = absurd (cc)

@@ -21,23 +21,12 @@ use Rattle.laws.proofs.Calls.{by_own, does_count, does_serve}
 use Rattle.laws.proofs.Blocks.{cut_count}
 use Rattle.laws.proofs.Quick.{looked_all, looked_most, four_pass}
 use Rattle.directory.specs.Cursor.{CursorFits, Begins, bytes_at}
-use Rattle.directory.specs.Search.{FirstNamed, QuickFinds}
+use Rattle.directory.specs.Search.{FirstNamed}
 use Rattle.directory.specs.declared.Cursor.{Cursor}
 use Rattle.directory.specs.declared.EntryAt.{EntryAt}
-use Rattle.directory.specs.declared.QuickSearch.{QuickSearch}
-use Rattle.directory.specs.declared.QuickSearch.TheVariants as quick
 use Rattle.directory.proofs.Whole.{sound_fits}
 use Rattle.files.specs.Told.{told_quick_find}
 use Rattle.call_quick_find.specs.Opened.{Opened}
-
--- what the search found, by its case
-module _ (image name : List ℕ) (bs : List (List ℕ)) {s : QuickSearch} (h : QuickFinds image name bs s) where
-  pub found_at : {place : ℕ} {e : EntryAt} {looked : ℕ} → s ≡ quick.At place e looked
-      → FirstNamed image name (quick_listing bs) place e × (looked ≡ looked_at name bs)
-  found_at p = rw p at h
-
-  pub found_none : s ≡ quick.Nothing → any (named name) (quick_listing bs) ≡ false
-  found_none p = rw p at h
 
 module _ {f : VolumeFacts} {image : List ℕ} (o : Opened f image) where
   -- the cursor at the directory's first entry

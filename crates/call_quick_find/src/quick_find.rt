@@ -3,7 +3,6 @@ ghost use Rattle.model.specs.Calls.{Call, Does};
 ghost use Rattle.files.specs.Told.{told_quick_find};
 ghost use Rattle.call_quick_find.specs.Opened.{Opened};
 
-use directory::QuickSearch;
 use files::{QuickFound, QuickRefusal, bad_name, first_entry};
 use model::{Refusal, VolumeFacts};
 
@@ -19,12 +18,12 @@ pub fn serve_quick_find(
         return Err(QuickRefusal::from(Refusal::BadName));
     }
     match directory::quick_locate(image, first_entry(f), name) {
-        QuickSearch::At(place, e, looked) => Ok(QuickFound {
-            place: place as u64,
-            entry: directory::read_entry(image, e),
-            looked: looked as u16,
+        Some(found) => Ok(QuickFound {
+            place: found.place as u64,
+            entry: directory::read_entry(image, found.entry),
+            looked: found.looked as u16,
         }),
-        QuickSearch::Nothing => Err(QuickRefusal {
+        None => Err(QuickRefusal {
             refusal: Refusal::NotFound,
             looked: f.directory_length,
         }),

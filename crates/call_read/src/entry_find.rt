@@ -3,7 +3,6 @@ ghost use Rattle.model.specs.Calls.{Call, Does};
 ghost use Rattle.files.specs.Lookup.{Readable};
 ghost use Rattle.files.specs.Told.{told_entry, told_find};
 
-use directory::Found;
 use files::{FoundFile, first_entry, lookup};
 use model::{DirectoryEntry, Refusal, VolumeFacts};
 
@@ -13,8 +12,8 @@ pub fn serve_entry(image: &[u8], f: VolumeFacts, place: u64) -> Result<Directory
     ensures { Does (Call.entry place) image.now (told_entry result) image.now }
 {
     match directory::entry_at(image, first_entry(f), place) {
-        Found::At(_, e) => Ok(directory::read_entry(image, e)),
-        Found::Nothing => Err(Refusal::NotFound),
+        Some(found) => Ok(directory::read_entry(image, found.entry)),
+        None => Err(Refusal::NotFound),
     }
 }
 

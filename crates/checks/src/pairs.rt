@@ -7,7 +7,7 @@ ghost use Rattle.directory.specs.Folding.{Folds};
 ghost use Rattle.checks.specs.Same.{same_by, clash};
 
 use crate::Field;
-use directory::{Advance, Cursor, EntryAt, number_of, same_name};
+use directory::{Cursor, EntryAt, number_of, same_name};
 
 // Whether two entries are the same in this field: the same file number, or equal names.
 pub fn same(image: &[u8], d: EntryAt, e: EntryAt, field: Field, fold: &[u8; 256]) -> bool
@@ -49,19 +49,13 @@ fn clashes_behind(image: &[u8], from: Cursor, e: EntryAt, fold: &[u8; 256]) -> b
     ensures { result ≡ any (clash (bytes_at image.now e)) (rest_of image.now from) }
 {
     let mut c = from;
-    loop {
-        match c.advance(image) {
-            Advance::Entry(d, behind) => {
-                if clashes(image, e, d, fold) {
-                    return true;
-                }
-                c = behind;
-            }
-            Advance::End => {
-                return false;
-            }
+    while let Some((d, behind)) = c.advance(image) {
+        if clashes(image, e, d, fold) {
+            return true;
         }
+        c = behind;
     }
+    false
 }
 
 // Whether no file number is repeated and no two names are equal: each entry is compared with those behind it.
@@ -71,17 +65,11 @@ pub fn pairs_differ(image: &[u8], from: Cursor, fold: &[u8; 256]) -> bool
     ensures { result ≡ (distinct same_numbers (rest_of image.now from) && distinct same_names (rest_of image.now from)) }
 {
     let mut c = from;
-    loop {
-        match c.advance(image) {
-            Advance::Entry(e, behind) => {
-                if clashes_behind(image, behind, e, fold) {
-                    return false;
-                }
-                c = behind;
-            }
-            Advance::End => {
-                return true;
-            }
+    while let Some((e, behind)) = c.advance(image) {
+        if clashes_behind(image, behind, e, fold) {
+            return false;
         }
+        c = behind;
     }
+    true
 }

@@ -8,7 +8,7 @@ ghost use Rattle.checks.specs.Table.{hashed, spread_of, home_by, entry_from, All
 
 use crate::Field;
 use crate::pairs::same;
-use directory::{Advance, Cursor, EntryAt, number_of};
+use directory::{Cursor, EntryAt, number_of};
 
 // Slots of the table. The first 4,096 are home slots. No directory has more than 2,304 entries, nine in each of 256 blocks, so that
 // even those of one home slot have room behind it, and nothing wraps around.
@@ -127,25 +127,21 @@ fn insert_all(
     ensures { Compares field (rest_of image.now from) result }
 {
     let mut c = from;
-    loop {
-        match c.advance(image) {
-            Advance::Entry(e, behind) => match probe(image, table, e, field, fold) {
-                Slot::Free(i) => {
-                    table[i] = (e.start + 1) as u32;
-                    c = behind;
-                }
-                Slot::Equal => {
-                    return Compared::Repeated;
-                }
-                Slot::Full => {
-                    return Compared::Unknown;
-                }
-            },
-            Advance::End => {
-                return Compared::Differ;
+    while let Some((e, behind)) = c.advance(image) {
+        match probe(image, table, e, field, fold) {
+            Slot::Free(i) => {
+                table[i] = (e.start + 1) as u32;
+                c = behind;
+            }
+            Slot::Equal => {
+                return Compared::Repeated;
+            }
+            Slot::Full => {
+                return Compared::Unknown;
             }
         }
     }
+    Compared::Differ
 }
 
 // A table with every slot free.

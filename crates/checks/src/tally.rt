@@ -4,7 +4,7 @@ ghost use Rattle.model.specs.Check.{good_number};
 ghost use Rattle.directory.specs.Cursor.{rest_of, CursorFits, bytes_at, Stands};
 ghost use Rattle.checks.specs.Tallied.{Tallied};
 
-use directory::{Cursor, EntryAt, Step, number_of};
+use directory::{BadEntry, Cursor, EntryAt, number_of};
 
 // Whether check 6 fires, and where it does not, how many entries there are and whether each file number is above 0 and below
 // the next one.
@@ -37,21 +37,21 @@ pub fn count_entries(image: &[u8], from: Cursor, next: u32) -> Tally
     let mut numbered = true;
     loop {
         match c.next(image) {
-            Step::Entry(e, behind) => {
+            Ok(Some((e, behind))) => {
                 if !good_number(image, e, next) {
                     numbered = false;
                 }
                 count += 1;
                 c = behind;
             }
-            Step::End => {
+            Ok(None) => {
                 return Tally {
                     bad: false,
                     count,
                     numbered,
                 };
             }
-            Step::Bad => {
+            Err(BadEntry) => {
                 return Tally {
                     bad: true,
                     count,

@@ -10,7 +10,7 @@ ghost use Rattle.directory.specs.Cursor.{rest_of, CursorFits, Passes};
 ghost use Rattle.checks.specs.Numbers.{directory_number, Claims, Judged, Mapped};
 
 use crate::limits::judge_facts;
-use directory::{Advance, Cursor};
+use directory::Cursor;
 use model::{Fork, Refusal, VolumeFacts};
 
 // Checks 6 and 7.
@@ -48,24 +48,18 @@ fn claim_all(
     ensures { Claims (decoded_entry entries.now) n a marks.old (forks_in (rest_of image.now from)) result marks.new }
 {
     let mut c = from;
-    loop {
-        match c.advance(image) {
-            Advance::Entry(e, behind) => {
-                let data = directory::read_fork(image, e, Fork::Data);
-                if !blockmap::claim_fork(entries, n, a, data, marks) {
-                    return false;
-                }
-                let resource = directory::read_fork(image, e, Fork::Resource);
-                if !blockmap::claim_fork(entries, n, a, resource, marks) {
-                    return false;
-                }
-                c = behind;
-            }
-            Advance::End => {
-                return true;
-            }
+    while let Some((e, behind)) = c.advance(image) {
+        let data = directory::read_fork(image, e, Fork::Data);
+        if !blockmap::claim_fork(entries, n, a, data, marks) {
+            return false;
         }
+        let resource = directory::read_fork(image, e, Fork::Resource);
+        if !blockmap::claim_fork(entries, n, a, resource, marks) {
+            return false;
+        }
+        c = behind;
     }
+    true
 }
 
 // Checks 8 to 10, from the decoded map.

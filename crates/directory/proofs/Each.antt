@@ -8,32 +8,12 @@ use Rattle.model.specs.Check.{fires6}
 use Rattle.model.proofs.Lists.{so_not}
 use Rattle.directory.specs.declared.Cursor.{Cursor}
 use Rattle.directory.specs.declared.EntryAt.{EntryAt}
-use Rattle.directory.specs.declared.Step.{Step}
-use Rattle.directory.specs.declared.Step.TheVariants.{Entry, End, Bad}
-use Rattle.directory.specs.declared.Advance.{Advance}
-use Rattle.directory.specs.declared.Advance.TheVariants as advance
-use Rattle.directory.specs.Cursor.{rest_of, Passes, Moves, Fails, Stepped, Advances, Advanced}
+use Rattle.directory.specs.declared.BadEntry.{BadEntry}
+use Rattle.directory.specs.Cursor.{rest_of, Passes, Moves, Fails, Stepped, Advanced}
+use Rattle.std.specs.Prelude.{Option, Some, None, Result, Ok, Err, IsOk, IsErr}
 
 pub differs : true ≡ false → ⊥
 differs h = so_not true h refl
-
--- ---- what a step found, by its case
-
-module _ {image : List ℕ} {c : Cursor} {s : Step} where
-  pub moved : {e : EntryAt} {d : Cursor} → Stepped image c s → s ≡ Entry e d → Moves image c e d
-  moved h p = rw p at h
-
-  pub failed : Stepped image c s → s ≡ Bad → Fails image c
-  failed h p = rw p at h
-
-pub ended : (image : List ℕ) (c : Cursor) {s : Step} → Stepped image c s → s ≡ End → rest_of image c ≡ []
-ended image c h p = rw p at h
-
-pub advanced : {image : List ℕ} {c : Cursor} {s : Advance} {e : EntryAt} {d : Cursor} → Advanced image c s → s ≡ advance.Entry e d → Advances image c e d
-advanced h p = rw p at h
-
-pub none_left : (image : List ℕ) (c : Cursor) {s : Advance} → Advanced image c s → s ≡ advance.End → rest_of image c ≡ []
-none_left image c h p = rw p at h
 
 -- ---- check 6
 
@@ -55,5 +35,18 @@ module _ {image : List ℕ} {c : Cursor} (p : Passes image c) where
   pub passes_more : {e : EntryAt} {d : Cursor} → Moves image c e d → Passes image d
   passes_more m = record { fits = m.fits; good = sym (six_more m) ∙ p.good }
 
-  pub never_fails : {s : Step} → Stepped image c s → s ≡ Bad → ⊥
-  never_fails h q = so_not (fires6 (rest_of image c)) p.good (six_fails (failed h q))
+  pub never_fails : Fails image c → ⊥
+  never_fails h = so_not (fires6 (rest_of image c)) p.good (six_fails h)
+
+  -- so a step finds an entry or none
+  pub steps : (s : Result (Option (EntryAt × Cursor)) BadEntry) → Stepped image c s → IsOk s
+  steps (Ok m) h = refl
+  steps (Err e) h = absurd (never_fails h)
+
+  pub advances : (m : Option (EntryAt × Cursor)) → Stepped image c (Ok m) → Advanced image c m
+  advances (Some m) h = record { moves = h; passes = passes_more h }
+  advances None h = h
+
+pub stepped_err : {image : List ℕ} {c : Cursor} (s : Result (Option (EntryAt × Cursor)) BadEntry) → IsErr s → Fails image c → Stepped image c s
+stepped_err (Ok m) i h = absurd (cc)
+stepped_err (Err e) i h = h

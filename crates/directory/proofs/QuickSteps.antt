@@ -13,21 +13,28 @@ use Rattle.model.specs.Check.{good_entry}
 use Rattle.model.specs.Quick.{quick_entries, quick_listing, shows, looked_at}
 use Rattle.laws.proofs.BytesKept.{read_few}
 use Rattle.laws.proofs.Reorder.{first_found}
-use Rattle.laws.proofs.Quick.{looked_here, shown_any, shown_first, shown_place, looked_past, past_any, past_first, past_place}
+use Rattle.laws.proofs.Quick.{leading_none, looked_here, shown_any, shown_first, shown_place, looked_past, past_any, past_first, past_place}
 use Rattle.directory.specs.declared.EntryAt.{EntryAt}
-use Rattle.directory.specs.declared.BlockSearch.{BlockSearch}
-use Rattle.directory.specs.declared.BlockSearch.TheVariants as block
-use Rattle.directory.specs.Cursor.{rest_of}
-use Rattle.directory.specs.Search.{FirstNamed, Searched}
+use Rattle.directory.specs.declared.BadEntry.{BadEntry}
+use Rattle.directory.specs.declared.Cursor.{Cursor}
+use Rattle.directory.specs.Cursor.{rest_of, Moves, Stepped}
+use Rattle.std.specs.Prelude.{Option, Some, None, Result, Ok, Err}
+use Rattle.std.specs.Result.{result_unwrap_or}
+use Rattle.directory.specs.Search.{FirstNamed}
 
 -- ---- one block
 
-module _ (image name : List ℕ) (es : List (List ℕ)) {s : BlockSearch} (h : Searched image name es s) where
-  pub searched_at : {place : ℕ} {e : EntryAt} → s ≡ block.At place e → FirstNamed image name es place e
-  searched_at p = rw p at h
+-- what a step found, where an entry that fails check 6 counts as none
+pub moved : {image : List ℕ} {c : Cursor} (s : Result (Option (EntryAt × Cursor)) BadEntry) {e : EntryAt} {d : Cursor} → Stepped image c s
+    → result_unwrap_or s None ≡ Some (e, d) → Moves image c e d
+moved (Ok m) h p = rw p at h
+moved (Err x) h p = absurd (cc)
 
-  pub searched_past : {count : ℕ} → s ≡ block.Passed count → (any (named name) es ≡ false) × (count ≡ length es)
-  searched_past p = rw p at h
+pub ended : (image : List ℕ) (c : Cursor) (s : Result (Option (EntryAt × Cursor)) BadEntry) → Stepped image c s → result_unwrap_or s None ≡ None
+    → leading good_entry (rest_of image c) ≡ []
+unfolding leading
+ended image c (Ok m) h p = ap (leading good_entry) (rw p at h)
+ended image c (Err x) h p = leading_none good_entry h.rest h.bad
 
 -- a cursor over one block reads that block's entries
 pub one_block : (image : List ℕ) (p : ℕ) → leading good_entry (rest_of image (record { base = p; at = 0; left = 0 })) ≡ quick_entries (part p 512 image)

@@ -1,5 +1,5 @@
 -- What the directory cursor says: the entries from it on, and what one step of it finds.
-use Rattle.std.specs.Prelude.{ℕ, ◌+◌, ◌-◌, ◌*◌, ◌≤◌, ◌<◌, ◌≡◌, true, false, List, [], ◌∷◌, ◌++◌, length, drop}
+use Rattle.std.specs.Prelude.{ℕ, ◌+◌, ◌-◌, ◌*◌, ◌≤◌, ◌<◌, ◌≡◌, true, false, List, [], ◌∷◌, ◌++◌, length, drop, Option, Some, None, Result, Ok, Err}
 use Rattle.model.specs.Lists.{flat}
 use Rattle.model.specs.Bytes.{byte, part}
 use Rattle.model.specs.Directory.{size_for, read_at, entries, cut_blocks, listing}
@@ -7,10 +7,7 @@ use Rattle.model.specs.Check.{good_entry, fires6}
 use Rattle.model.specs.declared.LogicalBlock.{LogicalBlock}
 use Rattle.directory.specs.declared.Cursor.{Cursor}
 use Rattle.directory.specs.declared.EntryAt.{EntryAt}
-use Rattle.directory.specs.declared.Step.{Step}
-use Rattle.directory.specs.declared.Step.TheVariants.{Entry, End, Bad}
-use Rattle.directory.specs.declared.Advance.{Advance}
-use Rattle.directory.specs.declared.Advance.TheVariants as advance
+use Rattle.directory.specs.declared.BadEntry.{BadEntry}
 
 -- the directory block that the cursor stands in
 abbrev pub block_of : List ℕ → Cursor → List ℕ
@@ -89,10 +86,15 @@ pub record Fails (image : List ℕ) (c : Cursor) : Type 0 where
   pub bad : good_entry entry ≡ false
 
 -- what a step from the cursor finds
-abbrev pub Stepped : List ℕ → Cursor → Step → Type 0
-Stepped image c (Entry e d) = Moves image c e d
-Stepped image c End = rest_of image c ≡ []
-Stepped image c Bad = Fails image c
+abbrev pub Stepped : List ℕ → Cursor → Result (Option (EntryAt × Cursor)) BadEntry → Type 0
+Stepped image c (Ok (Some m)) = Moves image c m.0 m.1
+Stepped image c (Ok None) = rest_of image c ≡ []
+Stepped image c (Err _) = Fails image c
+
+-- what it finds where an entry is at the cursor
+abbrev pub Entered : List ℕ → Cursor → Result (EntryAt × Cursor) BadEntry → Type 0
+Entered image c (Ok m) = Moves image c m.0 m.1
+Entered image c (Err _) = Fails image c
 
 -- the same where check 6 fires for none of the entries, so that it fires for none behind e
 pub record Advances (image : List ℕ) (c : Cursor) (e : EntryAt) (d : Cursor) : Type 0 where
@@ -100,6 +102,6 @@ pub record Advances (image : List ℕ) (c : Cursor) (e : EntryAt) (d : Cursor) :
   pub passes : Passes image d
 
 -- what it finds there
-abbrev pub Advanced : List ℕ → Cursor → Advance → Type 0
-Advanced image c (advance.Entry e d) = Advances image c e d
-Advanced image c advance.End = rest_of image c ≡ []
+abbrev pub Advanced : List ℕ → Cursor → Option (EntryAt × Cursor) → Type 0
+Advanced image c (Some m) = Advances image c m.0 m.1
+Advanced image c None = rest_of image c ≡ []

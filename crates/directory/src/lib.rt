@@ -16,6 +16,8 @@ pub use names::same_name;
 pub use places::entry_size;
 pub use quick::quick_locate;
 pub use search::{entry_at, locate};
+use std::error::Error;
+use std::fmt;
 
 // A place in the directory's reading.
 #[derive(Clone, Copy)]
@@ -36,46 +38,30 @@ pub struct EntryAt {
     pub name_length: usize,
 }
 
-// What the reading finds at a cursor.
-#[derive(Clone, Copy)]
-pub enum Step {
-    // The next entry, and the cursor behind it.
-    Entry(EntryAt, Cursor),
-    // No entry is left.
-    End,
-    // The next entry crosses its block, has name length 0 or version other than 0.
-    Bad,
+// The next entry crosses its block, has name length 0 or version other than 0: check 6 refuses it.
+#[derive(Clone, Copy, Debug, PartialEq, Eq)]
+pub struct BadEntry;
+
+impl fmt::Display for BadEntry {
+    fn fmt<W: fmt::Write>(&self, f: &mut fmt::Formatter<W>) -> fmt::Result {
+        write!(f, "a directory entry that check 6 refuses")
+    }
 }
 
-// What it finds in a directory that passed check 6.
+impl Error for BadEntry {}
+
+// An entry that a search found, with its place in directory order.
 #[derive(Clone, Copy)]
-pub enum Advance {
-    Entry(EntryAt, Cursor),
-    End,
+pub struct Found {
+    pub place: usize,
+    pub entry: EntryAt,
 }
 
-// What a search finds.
+// An entry found in the directory blocks, one after another: its place is among those read.
 #[derive(Clone, Copy)]
-pub enum Found {
-    // The entry, with its place in directory order.
-    At(usize, EntryAt),
-    Nothing,
-}
-
-// What a search of one directory block finds.
-#[derive(Clone, Copy)]
-pub enum BlockSearch {
-    // The entry, with its place in the block.
-    At(usize, EntryAt),
-    // So many entries, none of the name.
-    Passed(usize),
-}
-
-// What a search of the directory blocks, one after another, finds.
-#[derive(Clone, Copy)]
-pub enum QuickSearch {
-    // The entry, its place among those read, and the number of blocks looked at.
-    At(usize, EntryAt, usize),
-    // All blocks were looked at.
-    Nothing,
+pub struct QuickFound {
+    pub place: usize,
+    pub entry: EntryAt,
+    // Blocks looked at.
+    pub looked: usize,
 }

@@ -10,37 +10,36 @@ ghost use Rattle.directory.specs.Search.{Searched, QuickFinds};
 
 use crate::folds::fold_table;
 use crate::search::has_name;
-use crate::{BlockSearch, Cursor, QuickSearch, Step};
+use crate::{Cursor, Found, QuickFound};
+use std::ops::ControlFlow;
 
 // The first entry of the name from the cursor on, up to one that check 6 would refuse. It is given a cursor with no block behind its own.
-fn search_block(image: &[u8], from: Cursor, name: &[u8], fold: &[u8; 256]) -> BlockSearch
+// Where none has it, the number of entries is what the search goes on with.
+fn search_block(
+    image: &[u8],
+    from: Cursor,
+    name: &[u8],
+    fold: &[u8; 256],
+) -> ControlFlow<Found, usize>
     requires cursor_fits { CursorFits image.now from }
     requires folds { Folds fold.now }
     ensures { Searched image.now name.now (leading good_entry (rest_of image.now from)) result }
 {
     let mut c = from;
     let mut place: usize = 0;
-    loop {
-        match c.next(image) {
-            Step::Entry(e, behind) => {
-                if has_name(image, e, name, fold) {
-                    return BlockSearch::At(place, e);
-                }
-                place += 1;
-                c = behind;
-            }
-            Step::End => {
-                return BlockSearch::Passed(place);
-            }
-            Step::Bad => {
-                return BlockSearch::Passed(place);
-            }
+    // An entry that check 6 would refuse ends the reading as no entry does.
+    while let Some((entry, behind)) = c.next(image).unwrap_or(None) {
+        if has_name(image, entry, name, fold) {
+            return ControlFlow::Break(Found { place, entry });
         }
+        place += 1;
+        c = behind;
     }
+    ControlFlow::Continue(place)
 }
 
 // The first entry of the name in the blocks from the start of the cursor's own on; no block behind the one that has it is read.
-pub fn quick_locate(image: &[u8], from: Cursor, name: &[u8]) -> QuickSearch
+pub fn quick_locate(image: &[u8], from: Cursor, name: &[u8]) -> Option<QuickFound>
     requires { CursorFits image.now from }
     ensures { QuickFinds image.now name.now (cut_blocks (from.left + 1) (drop from.base image.now)) result }
 {
@@ -56,14 +55,18 @@ pub fn quick_locate(image: &[u8], from: Cursor, name: &[u8]) -> QuickSearch
             left: 0,
         };
         match search_block(image, block, name, &fold) {
-            BlockSearch::At(within, e) => {
-                return QuickSearch::At(place + within, e, looked + 1);
+            ControlFlow::Break(found) => {
+                return Some(QuickFound {
+                    place: place + found.place,
+                    entry: found.entry,
+                    looked: looked + 1,
+                });
             }
-            BlockSearch::Passed(count) => {
+            ControlFlow::Continue(count) => {
                 place += count;
                 looked += 1;
             }
         }
     }
-    QuickSearch::Nothing
+    None
 }

@@ -1,10 +1,10 @@
 // The reading of the directory: one entry after another, one block after another.
 ghost use Rattle.std.specs.Prelude.{◌≡◌, false, ◌≤◌};
 ghost use Rattle.model.specs.Directory.{ends_at};
-ghost use Rattle.directory.specs.Cursor.{block_of, CursorFits, Passes, Stepped, Advanced, Begins};
+ghost use Rattle.directory.specs.Cursor.{block_of, CursorFits, Passes, Entered, Stepped, Advanced, Begins};
 
 use crate::places::entry_size;
-use crate::{Advance, Cursor, EntryAt, Step};
+use crate::{BadEntry, Cursor, EntryAt};
 use model::LogicalBlock;
 
 impl Cursor {
@@ -41,46 +41,46 @@ impl Cursor {
     }
 
     // The entry here, where the block's reading does not end.
-    fn entry(self, image: &[u8]) -> Step
+    fn entry(self, image: &[u8]) -> Result<(EntryAt, Cursor), BadEntry>
         requires cursor_fits { CursorFits image.now self }
         requires at_value { ends_at (block_of image.now self) self.at ≡ false }
-        ensures { Stepped image.now self result }
+        ensures { Entered image.now self result }
     {
         let at = self.at;
         if Self::BLOCK < at + EntryAt::LEAST {
-            return Step::Bad;
+            return Err(BadEntry);
         }
         let start = self.base + at;
         if image[start + EntryAt::VERSION_AT] != 0 {
-            return Step::Bad;
+            return Err(BadEntry);
         }
         let name_length = image[start + EntryAt::NAME_LENGTH_AT] as usize;
         if name_length == 0 {
-            return Step::Bad;
+            return Err(BadEntry);
         }
         let next = at + entry_size(name_length);
         if Self::BLOCK < next {
-            return Step::Bad;
+            return Err(BadEntry);
         }
-        Step::Entry(
+        Ok((
             EntryAt { start, name_length },
             Cursor {
                 base: self.base,
                 at: next,
                 left: self.left,
             },
-        )
+        ))
     }
 
     // The next entry, in this block or in one behind it, with the cursor moved past it.
-    pub fn next(self, image: &[u8]) -> Step
+    pub fn next(self, image: &[u8]) -> Result<Option<(EntryAt, Cursor)>, BadEntry>
         requires { CursorFits image.now self }
         ensures { Stepped image.now self result }
     {
         let mut c = self;
         while c.ends(image) {
             if c.left == 0 {
-                return Step::End;
+                return Ok(None);
             }
             c = Cursor {
                 base: c.base + Self::BLOCK,
@@ -88,19 +88,15 @@ impl Cursor {
                 left: c.left - 1,
             };
         }
-        c.entry(image)
+        Ok(Some(c.entry(image)?))
     }
 
     // The same in a directory that passed check 6.
-    pub fn advance(self, image: &[u8]) -> Advance
+    pub fn advance(self, image: &[u8]) -> Option<(EntryAt, Cursor)>
         requires { Passes image.now self }
         ensures { Advanced image.now self result }
     {
-        match self.next(image) {
-            Step::Entry(e, behind) => Advance::Entry(e, behind),
-            Step::End => Advance::End,
-            // A directory that passed check 6 has none.
-            Step::Bad => Advance::End,
-        }
+        // A directory that passed check 6 has no bad entry.
+        self.next(image).unwrap()
     }
 }

@@ -7,7 +7,7 @@ ghost use Rattle.directory.specs.Search.{Finds, Located, Gives};
 
 use crate::folds::fold_table;
 use crate::names::same_name;
-use crate::{Advance, Cursor, EntryAt, Found};
+use crate::{Cursor, EntryAt, Found};
 
 // Whether the entry has the name.
 pub fn has_name(image: &[u8], e: EntryAt, name: &[u8], fold: &[u8; 256]) -> bool
@@ -21,7 +21,7 @@ pub fn has_name(image: &[u8], e: EntryAt, name: &[u8], fold: &[u8; 256]) -> bool
 }
 
 // The first entry of the name, with its place counted from the cursor, and where in the directory it stands.
-pub fn locate(image: &[u8], from: Cursor, name: &[u8]) -> Found
+pub fn locate(image: &[u8], from: Cursor, name: &[u8]) -> Option<Found>
     requires { Passes image.now from }
     ensures finds { Finds image.now name.now (rest_of image.now from) result }
     ensures located { Located image.now from result }
@@ -29,41 +29,30 @@ pub fn locate(image: &[u8], from: Cursor, name: &[u8]) -> Found
     let fold = fold_table();
     let mut c = from;
     let mut place: usize = 0;
-    loop {
-        match c.advance(image) {
-            Advance::Entry(e, behind) => {
-                if has_name(image, e, name, &fold) {
-                    return Found::At(place, e);
-                }
-                place += 1;
-                c = behind;
-            }
-            Advance::End => {
-                return Found::Nothing;
-            }
+    while let Some((entry, behind)) = c.advance(image) {
+        if has_name(image, entry, name, &fold) {
+            return Some(Found { place, entry });
         }
+        place += 1;
+        c = behind;
     }
+    None
 }
 
 // The entry at a place counted from the cursor.
-pub fn entry_at(image: &[u8], from: Cursor, place: u64) -> Found
+pub fn entry_at(image: &[u8], from: Cursor, place: u64) -> Option<Found>
     requires { Passes image.now from }
     ensures { Gives image.now (rest_of image.now from) place result }
 {
     let mut c = from;
     let mut due = place;
-    loop {
-        match c.advance(image) {
-            Advance::Entry(e, behind) => {
-                if due == 0 {
-                    return Found::At(place as usize, e);
-                }
-                due -= 1;
-                c = behind;
-            }
-            Advance::End => {
-                return Found::Nothing;
-            }
+    while let Some((entry, behind)) = c.advance(image) {
+        if due == 0 {
+            let place = place as usize;
+            return Some(Found { place, entry });
         }
+        due -= 1;
+        c = behind;
     }
+    None
 }

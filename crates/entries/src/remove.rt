@@ -6,7 +6,7 @@ ghost use Rattle.model.specs.Directory.{read_end};
 ghost use Rattle.directory.specs.Cursor.{Stands, Lies};
 ghost use Rattle.entries.specs.Blocks.{Block, block_start, Removes};
 
-use directory::{Advance, Cursor, EntryAt, entry_size};
+use directory::{Cursor, EntryAt, entry_size};
 
 // Where the reading of the directory block at byte base ends.
 pub fn read_end(image: &[u8], base: usize) -> usize
@@ -18,16 +18,10 @@ pub fn read_end(image: &[u8], base: usize) -> usize
         at: 0,
         left: 0,
     };
-    loop {
-        match c.advance(image) {
-            Advance::Entry(_, behind) => {
-                c = behind;
-            }
-            Advance::End => {
-                return c.at;
-            }
-        }
+    while let Some((_, behind)) = c.advance(image) {
+        c = behind;
     }
+    c.at
 }
 
 // Takes the entry out of its directory block: the later entries move up, and zeros follow them.

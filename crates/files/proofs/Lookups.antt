@@ -5,7 +5,6 @@ use mathlib.Core.Path.{◌≡◌, refl}
 use mathlib.Core.Bool.{Bool, true, false, not}
 use mathlib.Core.List.{List}
 use native.Mathlib.Omega.{arith}
-use lib.ListN.{length}
 use Rattle.model.specs.Facts.{facts_of, dir_start, dir_length}
 use Rattle.model.specs.Lists.{any}
 use Rattle.model.specs.Directory.{directory, named}
@@ -13,14 +12,14 @@ use Rattle.model.specs.Check.{or_else}
 use Rattle.model.specs.Calls.{bad_name}
 use Rattle.model.proofs.Check.{accepted_passes}
 use Rattle.directory.specs.Cursor.{rest_of, Passes, Begins}
-use Rattle.directory.specs.Search.{Finds, Located, Gives, Placed}
+use Rattle.directory.specs.Search.{Finds, Located}
 use Rattle.directory.proofs.Whole.{begins_directory, sound_passes}
 use Rattle.entries.proofs.Located.{begins_comes}
 use Rattle.model.specs.declared.VolumeFacts.{VolumeFacts}
 use Rattle.directory.specs.declared.Cursor.{Cursor}
 use Rattle.directory.specs.declared.EntryAt.{EntryAt}
-use Rattle.directory.specs.declared.Found as sort
-use Rattle.directory.specs.declared.Found.TheVariants as found
+use Rattle.directory.specs.declared.Found.{Found}
+use Rattle.std.specs.Prelude.{Option, Some, None}
 use Rattle.files.specs.Lookup.{Readable, NamedEntry, Missed}
 
 -- ---- names
@@ -51,19 +50,11 @@ module _ {f : VolumeFacts} {image : List ℕ} (r : Readable f image) where
     pub first_passes : Passes image c
     first_passes = sound_passes image c begins r.accepted.facts (accepted_passes image r.accepted).pass6
 
-    first_rest : rest_of image c ≡ directory image
+    pub first_rest : rest_of image c ≡ directory image
     first_rest = begins_directory image c begins
 
-    module _ {s : sort.Found} where
-      pub given_at : {asked place : ℕ} {e : EntryAt} → Gives image (rest_of image c) asked s → s ≡ found.At place e
-          → Placed image (directory image) asked place e
-      given_at h p = rw first_rest at (rw p at h)
-
-      pub given_none : (asked : ℕ) → Gives image (rest_of image c) asked s → s ≡ found.Nothing → length (directory image) ≤ asked
-      given_none asked h p = rw first_rest at (rw p at h)
-
-    module _ {name : List ℕ} {s : sort.Found} (h : Finds image name (rest_of image c) s) (l : Located image c s) (good : bad_name name ≡ false) where
-      pub found_at : {place : ℕ} {e : EntryAt} → s ≡ found.At place e → NamedEntry image name place e
+    module _ {name : List ℕ} {s : Option Found} (h : Finds image name (rest_of image c) s) (l : Located image c s) (good : bad_name name ≡ false) where
+      pub found_at : {place : ℕ} {e : EntryAt} → s ≡ Some (record { place = place; entry = e }) → NamedEntry image name place e
       found_at p =
           let f' = facts_of image in
           record {
@@ -72,7 +63,7 @@ module _ {f : VolumeFacts} {image : List ℕ} (r : Readable f image) where
             lies = (rw p at l) (512 * (dir_start f').0) (dir_length f') (begins_comes image (dir_start f') (dir_length f') c begins);
           }
 
-      pub found_none : s ≡ found.Nothing → Missed image name 13
+      pub found_none : s ≡ None → Missed image name 13
       found_none p =
           let none : any (named name) (directory image) ≡ false = rw first_rest at (rw p at h) in
           record { fires = rw (good, none); some = λ z. omega arith }

@@ -14,7 +14,7 @@ use Rattle.model.specs.declared.VolumeFacts.{VolumeFacts}
 use Rattle.model.specs.declared.Fork.{Fork}
 use Rattle.model.specs.declared.ForkFacts.{ForkFacts}
 use Rattle.model.specs.declared.refusal.Refusal.{Refusal}
-use Rattle.files.specs.declared.Named.{Named}
+use Rattle.directory.specs.declared.Found.{Found}
 use Rattle.files.specs.declared.NamedFork.{NamedFork}
 
 -- an accepted image and its facts
@@ -33,7 +33,7 @@ pub record Missed (image name : List ℕ) (number : ℕ) : Type 0 where
   pub fires : number ≡ or_else (bad_name name) 12 (or_else (not (any (named name) (directory image))) 13 0)
   pub some : number ≡ 0 → ⊥
 
-abbrev pub Names : List ℕ → List ℕ → Result Named Refusal → Type 0
+abbrev pub Names : List ℕ → List ℕ → Result Found Refusal → Type 0
 Names image name (Ok named) = NamedEntry image name named.place named.entry
 Names image name (Err refusal) = Missed image name (number_of refusal)
 
@@ -55,7 +55,7 @@ pub record Barred (image name : List ℕ) (beyond : Bool) (number : ℕ) : Type 
   pub some : number ≡ 0 → ⊥
 
 -- a call that asks for no fork has no 16
-abbrev pub MayChange : List ℕ → List ℕ → Result Named Refusal → Type 0
+abbrev pub MayChange : List ℕ → List ℕ → Result Found Refusal → Type 0
 MayChange image name (Ok named) = Changeable image name named.place named.entry
 MayChange image name (Err refusal) = Barred image name false (number_of refusal)
 

@@ -16,13 +16,6 @@ use model::{DirectoryEntry, ForkFacts, Refusal};
 pub use names::{bad_name, too_long};
 pub use searching::{changeable, changeable_fork, first_entry, lookup};
 
-// What a name given to a call names: an entry, with its place in directory order.
-#[derive(Clone, Copy)]
-pub struct Named {
-    pub place: usize,
-    pub entry: EntryAt,
-}
-
 // What a name and a fork given to a call name: the file's entry with the fork's facts.
 #[derive(Clone, Copy)]
 pub struct NamedFork {

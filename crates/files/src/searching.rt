@@ -6,7 +6,7 @@ ghost use Rattle.files.specs.Lookup.{Readable, Names, MayChange, MayChangeFork};
 
 use crate::locks::{file_locked, is_locked};
 use crate::names::bad_name;
-use crate::{Named, NamedFork};
+use crate::NamedFork;
 use directory::{Cursor, Found};
 use model::{Fork, Refusal, VolumeFacts};
 
@@ -20,7 +20,7 @@ pub fn first_entry(f: VolumeFacts) -> Cursor
 }
 
 // The entry that the name names.
-pub fn lookup(image: &[u8], f: VolumeFacts, name: &[u8]) -> Result<Named, Refusal>
+pub fn lookup(image: &[u8], f: VolumeFacts, name: &[u8]) -> Result<Found, Refusal>
     requires { Readable f image.now }
     ensures { Names image.now name.now result }
 {
@@ -28,13 +28,13 @@ pub fn lookup(image: &[u8], f: VolumeFacts, name: &[u8]) -> Result<Named, Refusa
         return Err(Refusal::BadName);
     }
     match directory::locate(image, first_entry(f), name) {
-        Found::At(place, entry) => Ok(Named { place, entry }),
-        Found::Nothing => Err(Refusal::NotFound),
+        Some(found) => Ok(found),
+        None => Err(Refusal::NotFound),
     }
 }
 
 // The entry of the name for a call that changes the file.
-pub fn changeable(image: &[u8], f: VolumeFacts, name: &[u8]) -> Result<Named, Refusal>
+pub fn changeable(image: &[u8], f: VolumeFacts, name: &[u8]) -> Result<Found, Refusal>
     requires { Readable f image.now }
     ensures { MayChange image.now name.now result }
 {

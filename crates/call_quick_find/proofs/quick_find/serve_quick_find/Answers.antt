@@ -4,14 +4,10 @@ use mathlib.Core.Path.{◌≡◌, refl, sym, ap, ◌∙◌}
 use mathlib.Core.Bool.{false}
 use native.Mathlib.Omega.{arith}
 use Rattle.model.specs.Bytes.{Bytes}
-use Rattle.model.specs.Facts.{facts_of}
-use Rattle.model.specs.Directory.{directory_blocks}
-use Rattle.model.specs.Quick.{quick_listing, looked_at}
 use Rattle.model.specs.Calls.{bad_name}
-use Rattle.directory.specs.Search.{FirstNamed}
 use Rattle.files.specs.Told.{told_quick_find}
 use Rattle.files.proofs.Octets.{octets}
-use Rattle.call_quick_find.proofs.Returns.{found_at, found_none, blocks_are, fits, some_block, few_looked, untitled, missed, served}
+use Rattle.call_quick_find.proofs.Returns.{blocks_are, fits, some_block, few_looked, untitled, missed, served}
 use Rattle.call_quick_find.proofs.quick_find.serve_quick_find.Goals as goal
 
 pub returns-then-bad_name : goal.returns-then-bad_name
@@ -28,35 +24,26 @@ quick_locate-requires c = fits c.requires c.first_entry.ensures
 
 pub read_entry-requires : goal.read_entry-requires
 read_entry-requires c =
-    let found : let a = c.args in
-    let bs = directory_blocks (facts_of a.image.now) a.image.now in
-    FirstNamed a.image.now a.name.now (quick_listing bs) c.in-At.place c.in-At.e
-    × (c.in-At.looked ≡ looked_at a.name.now bs) = rw (blocks_are c.requires c.first_entry.ensures) at (found_at _ _ _ c.quick_locate.ensures c.in-At.is) in
-    (found).0.stands
+    let found = rw (blocks_are c.requires c.first_entry.ensures) at c.in-Some.ensures in
+    found.0.stands
 
 pub overflow_cast-result : goal.overflow_cast-result
 overflow_cast-result c =
-    let found : let a = c.args in
-    let bs = directory_blocks (facts_of a.image.now) a.image.now in
-    FirstNamed a.image.now a.name.now (quick_listing bs) c.in-At.place c.in-At.e
-    × (c.in-At.looked ≡ looked_at a.name.now bs) = rw (blocks_are c.requires c.first_entry.ensures) at (found_at _ _ _ c.quick_locate.ensures c.in-At.is) in
-    omega (arith, (found).1, few_looked c.requires c.args.name.now)
+    let found = rw (blocks_are c.requires c.first_entry.ensures) at c.in-Some.ensures in
+    omega (arith, found.1, few_looked c.requires c.args.name.now)
 
-pub returns-in-At : goal.returns-in-At
-returns-in-At c =
+pub returns-in-Some : goal.returns-in-Some
+returns-in-Some c =
     let image_bytes : Bytes c.args.image.now = octets _ c.type_inv.image in
     let letters : Bytes c.args.name.now = octets _ c.type_inv.name in
     let good : bad_name c.args.name.now ≡ false = sym c.bad_name.ensures ∙ c.if-bad_name.false in
-    let found : let a = c.args in
-    let bs = directory_blocks (facts_of a.image.now) a.image.now in
-    FirstNamed a.image.now a.name.now (quick_listing bs) c.in-At.place c.in-At.e
-    × (c.in-At.looked ≡ looked_at a.name.now bs) = rw (blocks_are c.requires c.first_entry.ensures) at (found_at _ _ _ c.quick_locate.ensures c.in-At.is) in
+    let found = rw (blocks_are c.requires c.first_entry.ensures) at c.in-Some.ensures in
     served c.requires image_bytes letters good found c.read_entry.ensures
 
-pub returns-in-Nothing : goal.returns-in-Nothing
-returns-in-Nothing c =
+pub returns-in-None : goal.returns-in-None
+returns-in-None c =
     let image_bytes : Bytes c.args.image.now = octets _ c.type_inv.image in
     let letters : Bytes c.args.name.now = octets _ c.type_inv.name in
     let good : bad_name c.args.name.now ≡ false = sym c.bad_name.ensures ∙ c.if-bad_name.false in
-    let none = rw (blocks_are c.requires c.first_entry.ensures) at (found_none _ _ _ c.quick_locate.ensures c.in-Nothing.is) in
+    let none = rw (blocks_are c.requires c.first_entry.ensures) at c.in-None.ensures in
     missed c.requires image_bytes letters good refl none

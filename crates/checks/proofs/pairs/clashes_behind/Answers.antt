@@ -2,8 +2,6 @@
 -- nothing.
 use mathlib.Core.Path.{refl, sym, ap, ◌∙◌}
 use Rattle.model.specs.Lists.{any}
-use Rattle.directory.specs.Cursor.{Advances}
-use Rattle.directory.proofs.Each.{advanced, none_left}
 use Rattle.directory.proofs.Tests.{any_pass, any_fail}
 use Rattle.checks.proofs.pairs.clashes_behind.Goals as goal
 
@@ -12,7 +10,7 @@ loop-d-init c = (c.requires.passes, refl)
 
 pub clashes-requires : goal.clashes-requires
 clashes-requires c =
-    let step : Advances c.args.image.now c.loop-d.c c.in-Entry.d c.in-Entry.behind = advanced c.advance.ensures c.in-Entry.is in
+    let step = c.in-Some.ensures in
     record {
       stands = c.requires.stands;
       stands_2 = step.moves.stands;
@@ -21,19 +19,19 @@ clashes-requires c =
 
 pub returns-then-clashes : goal.returns-then-clashes
 returns-then-clashes c =
-    let step : Advances c.args.image.now c.loop-d.c c.in-Entry.d c.in-Entry.behind = advanced c.advance.ensures c.in-Entry.is in
+    let step = c.in-Some.ensures in
     sym (c.loop-d.invariant.1 ∙ any_pass step.moves.rest _ (sym c.clashes.ensures ∙ c.if-clashes.true))
 
 pub loop-d-smaller : goal.loop-d-smaller
 loop-d-smaller c =
-    let step : Advances c.args.image.now c.loop-d.c c.in-Entry.d c.in-Entry.behind = advanced c.advance.ensures c.in-Entry.is in
+    let step = c.in-Some.ensures in
     step.moves.less
 
 pub loop-d-preserved : goal.loop-d-preserved
 loop-d-preserved c =
-    let step : Advances c.args.image.now c.loop-d.c c.in-Entry.d c.in-Entry.behind = advanced c.advance.ensures c.in-Entry.is in
+    let step = c.in-Some.ensures in
     (step.passes, c.loop-d.invariant.1 ∙ any_fail step.moves.rest _ (sym c.clashes.ensures ∙ c.if-clashes.false))
 
-pub returns-in-End : goal.returns-in-End
+pub returns : goal.returns
 unfolding any
-returns-in-End c = sym (c.loop-d.invariant.1 ∙ ap (any _) (none_left _ _ c.advance.ensures c.in-End.is))
+returns c = sym (c.loop-d.invariant.1 ∙ ap (any _) c.in_default.ensures)

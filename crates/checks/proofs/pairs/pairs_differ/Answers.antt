@@ -2,8 +2,6 @@
 -- with one behind it. Assumes nothing.
 use mathlib.Core.Path.{refl, sym, ap, ◌∙◌}
 use Rattle.model.specs.Lists.{distinct}
-use Rattle.directory.specs.Cursor.{Advances}
-use Rattle.directory.proofs.Each.{advanced, none_left}
 use Rattle.checks.proofs.Clashes.{all_differ, differ_not, differ_more}
 use Rattle.checks.proofs.pairs.pairs_differ.Goals as goal
 
@@ -13,31 +11,29 @@ loop-e-init c = (c.requires.passes, refl)
 
 pub clashes_behind-requires : goal.clashes_behind-requires
 clashes_behind-requires c =
-    let step : Advances c.args.image.now c.loop-e.c c.in-Entry.e c.in-Entry.behind = advanced c.advance.ensures c.in-Entry.is in
-    let s = step in
+    let step = c.in-Some.ensures in
     record {
-      passes = s.passes;
-      stands = s.moves.stands;
+      passes = step.passes;
+      stands = step.moves.stands;
       folds = c.requires.folds;
     }
 
 pub returns-then-clashes_behind : goal.returns-then-clashes_behind
 unfolding all_differ
 returns-then-clashes_behind c =
-    let step : Advances c.args.image.now c.loop-e.c c.in-Entry.e c.in-Entry.behind = advanced c.advance.ensures c.in-Entry.is in
-    sym (c.loop-e.invariant.1 ∙ differ_not (step).moves.rest (sym c.clashes_behind.ensures ∙ c.if-clashes_behind.true))
+    let step = c.in-Some.ensures in
+    sym (c.loop-e.invariant.1 ∙ differ_not step.moves.rest (sym c.clashes_behind.ensures ∙ c.if-clashes_behind.true))
 
 pub loop-e-smaller : goal.loop-e-smaller
 loop-e-smaller c =
-    let step : Advances c.args.image.now c.loop-e.c c.in-Entry.e c.in-Entry.behind = advanced c.advance.ensures c.in-Entry.is in
-    (step).moves.less
+    let step = c.in-Some.ensures in
+    step.moves.less
 
 pub loop-e-preserved : goal.loop-e-preserved
 loop-e-preserved c =
-    let step : Advances c.args.image.now c.loop-e.c c.in-Entry.e c.in-Entry.behind = advanced c.advance.ensures c.in-Entry.is in
-    let s = step in
-    (s.passes, c.loop-e.invariant.1 ∙ differ_more s.moves.rest (sym c.clashes_behind.ensures ∙ c.if-clashes_behind.false))
+    let step = c.in-Some.ensures in
+    (step.passes, c.loop-e.invariant.1 ∙ differ_more step.moves.rest (sym c.clashes_behind.ensures ∙ c.if-clashes_behind.false))
 
-pub returns-in-End : goal.returns-in-End
+pub returns : goal.returns
 unfolding all_differ distinct
-returns-in-End c = sym (c.loop-e.invariant.1 ∙ ap all_differ (none_left _ _ c.advance.ensures c.in-End.is))
+returns c = sym (c.loop-e.invariant.1 ∙ ap all_differ c.in_default.ensures)

@@ -1,8 +1,6 @@
 -- `insert_all` meets its contract. The loop's invariant: the entries before c differ from each other, and they are what the table holds.
 -- Assumes nothing.
 use native.Mathlib.Omega.{arith}
-use Rattle.directory.specs.Cursor.{Advances}
-use Rattle.directory.proofs.Each.{advanced, none_left}
 use Rattle.checks.specs.Table.{FreeAt}
 use Rattle.checks.proofs.Kept.{found_free, found_met, kept_none, kept_same, kept_more, kept_met, kept_end}
 use Rattle.checks.proofs.table.insert_all.Goals as goal
@@ -12,7 +10,7 @@ loop-e-init c = (c.requires.passes, kept_none c.requires.all_free)
 
 pub probe-requires : goal.probe-requires
 probe-requires c =
-    let step : Advances c.args.image.now c.loop-e.c c.in-Entry.e c.in-Entry.behind = advanced c.advance.ensures c.in-Entry.is in
+    let step = c.in-Some.ensures in
     record {
       stands = step.moves.stands;
       filled = c.loop-e.invariant.1.filled;
@@ -21,47 +19,47 @@ probe-requires c =
 
 pub overflow_add-table : goal.overflow_add-table
 overflow_add-table c =
-    let step : Advances c.args.image.now c.loop-e.c c.in-Entry.e c.in-Entry.behind = advanced c.advance.ensures c.in-Entry.is in
+    let step = c.in-Some.ensures in
     omega (arith, step.moves.stands)
 
 pub overflow_cast-table : goal.overflow_cast-table
 overflow_cast-table c =
     let a = c.args in
-    let free : FreeAt a.field a.image.now c.loop-e.table c.in-Entry.e c.in-Free.i = found_free _ _ _ _ _ c.probe.ensures _ c.in-Free.is in
+    let free : FreeAt a.field a.image.now c.loop-e.table c.in-Some.e c.in-Free.i = found_free _ _ _ _ _ c.probe.ensures _ c.in-Free.is in
     omega (arith, free)
 
 pub offset_bounds-table-i : goal.offset_bounds-table-i
 offset_bounds-table-i c =
     let a = c.args in
-    let free : FreeAt a.field a.image.now c.loop-e.table c.in-Entry.e c.in-Free.i = found_free _ _ _ _ _ c.probe.ensures _ c.in-Free.is in
+    let free : FreeAt a.field a.image.now c.loop-e.table c.in-Some.e c.in-Free.i = found_free _ _ _ _ _ c.probe.ensures _ c.in-Free.is in
     omega (arith, free)
 
 pub bounds-table-i : goal.bounds-table-i
 bounds-table-i c =
     let a = c.args in
-    let free : FreeAt a.field a.image.now c.loop-e.table c.in-Entry.e c.in-Free.i = found_free _ _ _ _ _ c.probe.ensures _ c.in-Free.is in
+    let free : FreeAt a.field a.image.now c.loop-e.table c.in-Some.e c.in-Free.i = found_free _ _ _ _ _ c.probe.ensures _ c.in-Free.is in
     free.within
 
 pub loop-e-smaller : goal.loop-e-smaller
 loop-e-smaller c =
-    let step : Advances c.args.image.now c.loop-e.c c.in-Entry.e c.in-Entry.behind = advanced c.advance.ensures c.in-Entry.is in
+    let step = c.in-Some.ensures in
     step.moves.less
 
 pub loop-e-preserved : goal.loop-e-preserved
 loop-e-preserved c =
-    let step : Advances c.args.image.now c.loop-e.c c.in-Entry.e c.in-Entry.behind = advanced c.advance.ensures c.in-Entry.is in
+    let step = c.in-Some.ensures in
     let a = c.args in
-    let free : FreeAt a.field a.image.now c.loop-e.table c.in-Entry.e c.in-Free.i = found_free _ _ _ _ _ c.probe.ensures _ c.in-Free.is in
+    let free : FreeAt a.field a.image.now c.loop-e.table c.in-Some.e c.in-Free.i = found_free _ _ _ _ _ c.probe.ensures _ c.in-Free.is in
     let kept = c.loop-e.invariant.1 in
     (step.passes, kept_more kept.long step.moves.stands free (kept_same kept step.moves.rest))
 
 pub returns-in-Equal : goal.returns-in-Equal
 returns-in-Equal c =
-    let step : Advances c.args.image.now c.loop-e.c c.in-Entry.e c.in-Entry.behind = advanced c.advance.ensures c.in-Entry.is in
+    let step = c.in-Some.ensures in
     kept_met (kept_same c.loop-e.invariant.1 step.moves.rest) (found_met _ _ _ _ _ c.probe.ensures c.in-Equal.is)
 
 pub returns-in-Full : goal.returns-in-Full
 returns-in-Full c = tt
 
-pub returns-in-End : goal.returns-in-End
-returns-in-End c = kept_end (kept_same c.loop-e.invariant.1 (none_left _ _ c.advance.ensures c.in-End.is))
+pub returns : goal.returns
+returns c = kept_end (kept_same c.loop-e.invariant.1 c.in_default.ensures)

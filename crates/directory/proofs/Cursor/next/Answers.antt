@@ -5,7 +5,8 @@ use native.Mathlib.Omega.{arith}
 use mathlib.Core.Bool.{true}
 use Rattle.model.specs.Directory.{ends_at}
 use Rattle.directory.specs.Cursor.{block_of}
-use Rattle.directory.proofs.Steps.{last_block, next_block, comes_block, stepped_from}
+use Rattle.directory.proofs.Each.{stepped_err}
+use Rattle.directory.proofs.Steps.{last_block, next_block, comes_block, moves_from, fails_from}
 use Rattle.directory.proofs.Cursor.next.Goals as goal
 
 pub loop-c-init : goal.loop-c-init
@@ -37,5 +38,9 @@ entry-requires c = record { cursor_fits = c.loop-c.invariant.0; at_value = sym c
 pub returns : goal.returns
 returns c =
     let l = c.loop-c in
-    let a = c.args in
-    stepped_from a.image.now l.c a.self l.invariant.1 l.invariant.2 l.invariant.3 c.entry.result c.entry.ensures
+    moves_from l.invariant.1 l.invariant.2 l.invariant.3 c.in_ok-entry.ensures
+
+pub returns-in_err-entry : goal.returns-in_err-entry
+returns-in_err-entry c =
+    let l = c.loop-c in
+    stepped_err _ c.from_residual.ensures.0 (fails_from l.invariant.1 l.invariant.2 l.invariant.3 c.in_err-entry.ensures)

@@ -11,7 +11,7 @@ use Rattle.model.specs.Bytes.{part}
 use Rattle.model.specs.Directory.{cut_blocks, named}
 use Rattle.model.specs.Quick.{quick_entries}
 use Rattle.directory.specs.Search.{FirstNamed}
-use Rattle.directory.proofs.QuickSteps.{searched_at, searched_past, one_block, few, blocks_from, from_next, Past, none_past, all_past, past_more}
+use Rattle.directory.proofs.QuickSteps.{one_block, few, blocks_from, from_next, Past, none_past, all_past, past_more}
 use Rattle.directory.proofs.QuickSteps.{found_few, found_there, found_looked}
 use Rattle.directory.proofs.quick.quick_locate.Goals as goal
 
@@ -32,11 +32,11 @@ overflow_add-result c =
     rw (from_next a.image.now a.from.base (a.from.left + 1) c.loop-looked.looked (omega arith)) at c.loop-looked.invariant.2 in
     let found : let a = c.args in
     FirstNamed a.image.now a.name.now (quick_entries (part (a.from.base + c.loop-looked.looked * 512) 512 a.image.now))
-    c.in-At.within c.in-At.e = rw (one_block _ _) at (searched_at _ _ _ c.search_block.ensures c.in-At.is) in
+    c.in-Break.found.place c.in-Break.found.entry = rw (one_block _ _) at c.in-Break.ensures in
     omega (arith, found_few here found)
 
-pub returns-in-At : goal.returns-in-At
-returns-in-At c =
+pub returns-in-Break : goal.returns-in-Break
+returns-in-Break c =
     let here : let a = c.args in
     Past a.name.now (cut_blocks (a.from.left + 1) (drop a.from.base a.image.now))
     (part (a.from.base + c.loop-looked.looked * 512) 512 a.image.now
@@ -44,14 +44,14 @@ returns-in-At c =
     rw (from_next a.image.now a.from.base (a.from.left + 1) c.loop-looked.looked (omega arith)) at c.loop-looked.invariant.2 in
     let found : let a = c.args in
     FirstNamed a.image.now a.name.now (quick_entries (part (a.from.base + c.loop-looked.looked * 512) 512 a.image.now))
-    c.in-At.within c.in-At.e = rw (one_block _ _) at (searched_at _ _ _ c.search_block.ensures c.in-At.is) in
+    c.in-Break.found.place c.in-Break.found.entry = rw (one_block _ _) at c.in-Break.ensures in
     let w = here in (found_there w found, found_looked w found)
 
 pub overflow_add-place : goal.overflow_add-place
 overflow_add-place c =
     let passed : let a = c.args in
     let es = quick_entries (part (a.from.base + c.loop-looked.looked * 512) 512 a.image.now) in
-    (any (named a.name.now) es ≡ false) × (c.in-Passed.count ≡ length es) × (length es ≤ 10) = let p = rw (one_block _ _) at (searched_past _ _ _ c.search_block.ensures c.in-Passed.is) in
+    (any (named a.name.now) es ≡ false) × (c.in-Continue.count ≡ length es) × (length es ≤ 10) = let p = rw (one_block _ _) at c.in-Continue.ensures in
     (p.0, p.1, few _) in
     omega (arith, passed)
 
@@ -64,7 +64,7 @@ loop-looked-preserved c =
     rw (from_next a.image.now a.from.base (a.from.left + 1) c.loop-looked.looked (omega arith)) at c.loop-looked.invariant.2 in
     let passed : let a = c.args in
     let es = quick_entries (part (a.from.base + c.loop-looked.looked * 512) 512 a.image.now) in
-    (any (named a.name.now) es ≡ false) × (c.in-Passed.count ≡ length es) × (length es ≤ 10) = let p = rw (one_block _ _) at (searched_past _ _ _ c.search_block.ensures c.in-Passed.is) in
+    (any (named a.name.now) es ≡ false) × (c.in-Continue.count ≡ length es) × (length es ≤ 10) = let p = rw (one_block _ _) at c.in-Continue.ensures in
     (p.0, p.1, few _) in
     (omega arith, omega (arith, passed), rw passed.1 (past_more here passed.0))
 

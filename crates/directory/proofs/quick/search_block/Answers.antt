@@ -5,30 +5,30 @@ use mathlib.Core.Path.{refl, sym, ap, ◌∙◌}
 use mathlib.Core.List.{List, []}
 use native.Mathlib.Omega.{arith}
 use lib.ListN.{length}
-use Rattle.model.specs.Lists.{any, leading}
+use Rattle.model.specs.Lists.{any}
 use Rattle.model.specs.Directory.{named}
 use Rattle.model.specs.Check.{good_entry}
-use Rattle.laws.proofs.Quick.{leading_more, leading_none}
+use Rattle.laws.proofs.Quick.{leading_more}
 use Rattle.directory.specs.Cursor.{Moves}
-use Rattle.directory.proofs.Each.{moved, ended, failed}
+use Rattle.directory.proofs.QuickSteps.{moved, ended}
 use Rattle.directory.proofs.Tests.{any_pass, any_fail, first_pass, first_fail, place_pass, place_fail}
 use Rattle.directory.proofs.quick.search_block.Goals as goal
 
-pub loop-e-init : goal.loop-e-init
-loop-e-init c = (c.requires.cursor_fits, omega arith, refl, refl, omega arith, omega arith)
+pub loop-entry-init : goal.loop-entry-init
+loop-entry-init c = (c.requires.cursor_fits, omega arith, refl, refl, omega arith, omega arith)
 
 pub next-requires : goal.next-requires
-next-requires c = c.loop-e.invariant.0
+next-requires c = c.loop-entry.invariant.0
 
 pub has_name-requires : goal.has_name-requires
 has_name-requires c =
-    let step : Moves c.args.image.now c.loop-e.c c.in-Entry.e c.in-Entry.behind = moved c.next.ensures c.in-Entry.is in
+    let step : Moves c.args.image.now c.loop-entry.c c.in-Some.entry c.in-Some.behind = moved _ c.next.ensures (sym c.unwrap_or.ensures ∙ c.in-Some.is) in
     record { stands = step.stands; folds = c.requires.folds }
 
 pub returns-then-has_name : goal.returns-then-has_name
 returns-then-has_name c =
-    let step : Moves c.args.image.now c.loop-e.c c.in-Entry.e c.in-Entry.behind = moved c.next.ensures c.in-Entry.is in
-    let l = c.loop-e in
+    let step : Moves c.args.image.now c.loop-entry.c c.in-Some.entry c.in-Some.behind = moved _ c.next.ensures (sym c.unwrap_or.ensures ∙ c.in-Some.is) in
+    let l = c.loop-entry in
     let m = step in
     let rest = leading_more good_entry m.rest m.good in
     let has = sym c.has_name.ensures ∙ c.if-has_name.true in
@@ -43,18 +43,18 @@ returns-then-has_name c =
 
 pub overflow_add-place : goal.overflow_add-place
 overflow_add-place c =
-    let step : Moves c.args.image.now c.loop-e.c c.in-Entry.e c.in-Entry.behind = moved c.next.ensures c.in-Entry.is in
+    let step : Moves c.args.image.now c.loop-entry.c c.in-Some.entry c.in-Some.behind = moved _ c.next.ensures (sym c.unwrap_or.ensures ∙ c.in-Some.is) in
     omega (arith, step)
 
-pub loop-e-smaller : goal.loop-e-smaller
-loop-e-smaller c =
-    let step : Moves c.args.image.now c.loop-e.c c.in-Entry.e c.in-Entry.behind = moved c.next.ensures c.in-Entry.is in
+pub loop-entry-smaller : goal.loop-entry-smaller
+loop-entry-smaller c =
+    let step : Moves c.args.image.now c.loop-entry.c c.in-Some.entry c.in-Some.behind = moved _ c.next.ensures (sym c.unwrap_or.ensures ∙ c.in-Some.is) in
     step.less
 
-pub loop-e-preserved : goal.loop-e-preserved
-loop-e-preserved c =
-    let step : Moves c.args.image.now c.loop-e.c c.in-Entry.e c.in-Entry.behind = moved c.next.ensures c.in-Entry.is in
-    let l = c.loop-e in
+pub loop-entry-preserved : goal.loop-entry-preserved
+loop-entry-preserved c =
+    let step : Moves c.args.image.now c.loop-entry.c c.in-Some.entry c.in-Some.behind = moved _ c.next.ensures (sym c.unwrap_or.ensures ∙ c.in-Some.is) in
+    let l = c.loop-entry in
     let m = step in
     let rest = leading_more good_entry m.rest m.good in
     let long = ap (length {A = List ℕ}) rest in
@@ -68,19 +68,10 @@ loop-e-preserved c =
       omega arith,
     )
 
-pub returns-in-End : goal.returns-in-End
-unfolding any leading
-returns-in-End c =
-    let l = c.loop-e in
-    let none = ap (leading good_entry) (ended _ _ c.next.ensures c.in-End.is) in
-    let long = ap (length {A = List ℕ}) none in
-    (l.invariant.2 ∙ ap (any _) none, omega arith)
-
-pub returns-in-Bad : goal.returns-in-Bad
+pub returns : goal.returns
 unfolding any
-returns-in-Bad c =
-    let l = c.loop-e in
-    let f = failed c.next.ensures c.in-Bad.is in
-    let none = leading_none good_entry f.rest f.bad in
+returns c =
+    let l = c.loop-entry in
+    let none = ended _ _ _ c.next.ensures (sym c.unwrap_or.ensures ∙ c.in_default.is) in
     let long = ap (length {A = List ℕ}) none in
     (l.invariant.2 ∙ ap (any _) none, omega arith)

@@ -15,13 +15,13 @@ use Rattle.directory.proofs.quick.search_block.Given as goal
 abbrev pub goodRest : List ℕ → Cursor → List (List ℕ)
 goodRest image c = leading good_entry (rest_of image c)
 
-abbrev pub invariant-loop-e : goal.invariant-loop-e
-invariant-loop-e l =
+abbrev pub invariant-loop-entry : goal.invariant-loop-entry
+invariant-loop-entry l =
     CursorFits l.image l.c × (l.place + ahead l.c ≤ ahead l.initial.c)
     × (any (named l.name) (goodRest l.image l.initial.c) ≡ any (named l.name) (goodRest l.image l.c))
     × (first (named l.name) [] (goodRest l.image l.initial.c) ≡ first (named l.name) [] (goodRest l.image l.c))
     × (place_of (named l.name) (goodRest l.image l.initial.c) ≡ l.place + place_of (named l.name) (goodRest l.image l.c))
     × (length (goodRest l.image l.initial.c) ≡ l.place + length (goodRest l.image l.c))
 
-abbrev pub decreases-loop-e : goal.decreases-loop-e
-decreases-loop-e l = ahead l.c
+abbrev pub decreases-loop-entry : goal.decreases-loop-entry
+decreases-loop-entry l = ahead l.c

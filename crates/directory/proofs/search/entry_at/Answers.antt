@@ -4,37 +4,34 @@ use mathlib.Core.Path.{refl, sym, ap, ◌∙◌}
 use mathlib.Core.List.{List, []}
 use native.Mathlib.Omega.{arith}
 use lib.ListN.{length}
-use Rattle.directory.specs.Cursor.{Advances}
-use Rattle.directory.proofs.Each.{advanced, none_left}
 use Rattle.directory.proofs.Tests.{at_first, at_later}
 use Rattle.directory.proofs.search.entry_at.Goals as goal
 
-pub loop-e-init : goal.loop-e-init
-loop-e-init c = (c.requires, omega arith, refl, omega arith)
+pub loop-entry-init : goal.loop-entry-init
+loop-entry-init c = (c.requires, omega arith, refl, omega arith)
 
 pub returns-then-due-eq0 : goal.returns-then-due-eq0
 returns-then-due-eq0 c =
-    let step : Advances c.args.image.now c.loop-e.c c.in-Entry.e c.in-Entry.behind = advanced c.advance.ensures c.in-Entry.is in
-    let l = c.loop-e in
+    let step = c.in-Some.ensures in
+    let l = c.loop-entry in
     let m = step.moves in
     let long = ap (length {A = List ℕ}) m.rest in
     record { there = refl; below = omega arith; bytes = sym (l.invariant.2 ∙ at_first m.rest [] l.due c.if-due-eq0.true); stands = m.stands }
 
-pub loop-e-smaller : goal.loop-e-smaller
-loop-e-smaller c =
-    let step : Advances c.args.image.now c.loop-e.c c.in-Entry.e c.in-Entry.behind = advanced c.advance.ensures c.in-Entry.is in
+pub loop-entry-smaller : goal.loop-entry-smaller
+loop-entry-smaller c =
+    let step = c.in-Some.ensures in
     step.moves.less
 
-pub loop-e-preserved : goal.loop-e-preserved
-loop-e-preserved c =
-    let step : Advances c.args.image.now c.loop-e.c c.in-Entry.e c.in-Entry.behind = advanced c.advance.ensures c.in-Entry.is in
-    let l = c.loop-e in
+pub loop-entry-preserved : goal.loop-entry-preserved
+loop-entry-preserved c =
+    let step = c.in-Some.ensures in
+    let l = c.loop-entry in
     let m = step.moves in
     let long = ap (length {A = List ℕ}) m.rest in
     (step.passes, omega arith, l.invariant.2 ∙ at_later m.rest [] l.due c.if-due-eq0.false, omega arith)
 
-pub returns-in-End : goal.returns-in-End
-returns-in-End c =
-    let l = c.loop-e in
-    let long = ap (length {A = List ℕ}) (none_left _ _ c.advance.ensures c.in-End.is) in
+pub returns : goal.returns
+returns c =
+    let long = ap (length {A = List ℕ}) c.in_default.ensures in
     omega arith

@@ -1,6 +1,4 @@
 -- `read_end` meets its contract. The loop's invariant: the block's reading comes to c. Assumes nothing.
-use Rattle.directory.specs.Cursor.{Advances}
-use Rattle.directory.proofs.Each.{advanced, none_left}
 use Rattle.entries.proofs.Blocks.{block_passes, block_comes, block_ends}
 use Rattle.entries.proofs.remove.read_end.Goals as goal
 
@@ -9,16 +7,15 @@ loop-behind-init c = (block_passes c.args.image.now c.args.base c.requires, bloc
 
 pub loop-behind-smaller : goal.loop-behind-smaller
 loop-behind-smaller c =
-    let step : Advances c.args.image.now c.loop-behind.c c.in-Entry.field-0 c.in-Entry.behind = advanced c.advance.ensures c.in-Entry.is in
-    (step).moves.less
+    let step = c.in-Some.ensures in
+    step.moves.less
 
 pub loop-behind-preserved : goal.loop-behind-preserved
 loop-behind-preserved c =
-    let step : Advances c.args.image.now c.loop-behind.c c.in-Entry.field-0 c.in-Entry.behind = advanced c.advance.ensures c.in-Entry.is in
-    let s = step in
-    (s.passes, s.moves.comes _ 1 c.loop-behind.invariant.1)
+    let step = c.in-Some.ensures in
+    (step.passes, step.moves.comes _ 1 c.loop-behind.invariant.1)
 
-pub returns-in-End : goal.returns-in-End
-returns-in-End c =
+pub returns : goal.returns
+returns c =
     let l = c.loop-behind in
-    (block_ends _ _ l.c l.invariant.1 (none_left _ _ c.advance.ensures c.in-End.is), l.invariant.0.fits.place)
+    (block_ends _ _ l.c l.invariant.1 c.in_default.ensures, l.invariant.0.fits.place)

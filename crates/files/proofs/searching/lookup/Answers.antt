@@ -16,12 +16,12 @@ first_entry-requires c = some_block c.requires
 pub locate-requires : goal.locate-requires
 locate-requires c = first_passes c.requires c.first_entry.ensures
 
-pub returns-in-At : goal.returns-in-At
-returns-in-At c =
+pub returns-in-Some : goal.returns-in-Some
+returns-in-Some c =
     let good : bad_name c.args.name.now ≡ false = sym c.bad_name.ensures ∙ c.if-bad_name.false in
-    found_at c.requires c.first_entry.ensures c.locate.ensures.finds c.locate.ensures.located good c.in-At.is
+    found_at c.requires c.first_entry.ensures c.locate.ensures.finds c.locate.ensures.located good c.in-Some.is
 
-pub returns-in-Nothing : goal.returns-in-Nothing
-returns-in-Nothing c =
+pub returns-in-None : goal.returns-in-None
+returns-in-None c =
     let good : bad_name c.args.name.now ≡ false = sym c.bad_name.ensures ∙ c.if-bad_name.false in
-    found_none c.requires c.first_entry.ensures c.locate.ensures.finds c.locate.ensures.located good c.in-Nothing.is
+    found_none c.requires c.first_entry.ensures c.locate.ensures.finds c.locate.ensures.located good c.in-None.is
