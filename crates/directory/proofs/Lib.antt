@@ -6,3 +6,4 @@ pub mod Folding
 pub mod Same
 pub mod Tests
 pub mod QuickSteps
+pub mod Yielded

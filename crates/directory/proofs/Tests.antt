@@ -1,10 +1,10 @@
 -- Laws of the tests over entries es, of which x is the first and xs are the others.
-use Prim.Native.Nat.{ℕ, zero, suc, ◌-◌}
-use mathlib.Core.Path.{◌≡◌, refl, ap}
+use Prim.Native.Nat.{ℕ, zero, suc, ◌+◌, ◌-◌}
+use mathlib.Core.Path.{◌≡◌, refl, sym, ap, ◌∙◌}
 use mathlib.Core.Bool.{Bool, true, false, ◌&&◌, and-false}
-use mathlib.Core.List.{List, ◌∷◌}
+use mathlib.Core.List.{List, [], ◌∷◌}
 use native.Mathlib.Omega.{arith}
-use lib.ListN.{get_or}
+use lib.ListN.{length, get_or}
 use Rattle.model.specs.Lists.{every, any, first, place_of}
 
 module _ {A : Type 0} {es xs : List A} {x : A} (r : es ≡ x ∷ xs) (p : A → Bool) where
@@ -48,3 +48,33 @@ module _ {A : Type 0} {es xs : List A} {x : A} (r : es ≡ x ∷ xs) (d : A) whe
   pub at_later : (i : ℕ) → (i ≡ 0 → ⊥) → get_or es i d ≡ get_or xs (i - 1) d
   at_later zero h = absurd (h refl)
   at_later (suc i) h = rw r (ap (λ (j : ℕ). get_or xs j d) (omega arith))
+
+-- A search by p has passed n of the entries `all` and found none; the entries `rest` are left.
+pub record Onward {A : Type 0} (p : A → Bool) (d : A) (all rest : List A) (n : ℕ) : Type 0 where
+  pub exists : any p all ≡ any p rest
+  pub it : first p d all ≡ first p d rest
+  pub there : place_of p all ≡ n + place_of p rest
+  pub count : length all ≡ n + length rest
+
+pub onward_start : {A : Type 0} (p : A → Bool) (d : A) {all rest : List A} {n : ℕ} → rest ≡ all → n ≡ 0 → Onward p d all rest n
+onward_start p d r z = rw (r, z) (record { exists = refl; it = refl; there = omega arith; count = omega arith })
+
+module _ {A : Type 0} {p : A → Bool} {d : A} {all rest : List A} {n : ℕ} (o : Onward p d all rest n) where
+  module _ {x : A} {xs : List A} (r : rest ≡ x ∷ xs) where
+    -- the next entry is not it
+    pub onward_more : p x ≡ false → Onward p d all xs (n + 1)
+    onward_more h = record {
+      exists = o.exists ∙ any_fail r p h;
+      it = o.it ∙ first_fail r p d h;
+      there = omega (arith, o.there, place_fail r p h);
+      count = omega (arith, o.count, ap (length {A = A}) r);
+    }
+
+    -- the next entry is it
+    pub onward_found : p x ≡ true → (any p all ≡ true) × (n ≡ place_of p all) × (x ≡ first p d all)
+    onward_found h = (o.exists ∙ any_pass r p h, omega (arith, o.there, place_pass r p h), sym (o.it ∙ first_pass r p d h))
+
+  -- no entry is left
+  pub onward_end : rest ≡ [] → (any p all ≡ false) × (n ≡ length all)
+  unfolding any
+  onward_end r = (o.exists ∙ ap (any p) r, omega (arith, o.count, ap (length {A = A}) r))

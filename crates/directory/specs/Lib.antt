@@ -1,3 +1,4 @@
 pub mod Cursor
 pub mod Search
 pub mod Folding
+pub mod Entries

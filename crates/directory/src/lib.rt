@@ -4,6 +4,7 @@
 
 mod fields;
 mod folds;
+mod iterator;
 mod names;
 mod places;
 mod quick;
@@ -12,6 +13,7 @@ mod search;
 
 pub use fields::{fork_place, number_of, read_entry, read_fork};
 pub use folds::fold_table;
+pub use iterator::Entries;
 pub use names::same_name;
 pub use places::entry_size;
 pub use quick::quick_locate;

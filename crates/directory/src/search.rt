@@ -27,14 +27,10 @@ pub fn locate(image: &[u8], from: Cursor, name: &[u8]) -> Option<Found>
     ensures located { Located image.now from result }
 {
     let fold = fold_table();
-    let mut c = from;
-    let mut place: usize = 0;
-    while let Some((entry, behind)) = c.advance(image) {
+    for (place, entry) in from.entries(image).enumerate() {
         if has_name(image, entry, name, &fold) {
             return Some(Found { place, entry });
         }
-        place += 1;
-        c = behind;
     }
     None
 }
@@ -44,15 +40,7 @@ pub fn entry_at(image: &[u8], from: Cursor, place: u64) -> Option<Found>
     requires { Passes image.now from }
     ensures { Gives image.now (rest_of image.now from) place result }
 {
-    let mut c = from;
-    let mut due = place;
-    while let Some((entry, behind)) = c.advance(image) {
-        if due == 0 {
-            let place = place as usize;
-            return Some(Found { place, entry });
-        }
-        due -= 1;
-        c = behind;
-    }
-    None
+    let place = place as usize;
+    let entry = from.entries(image).nth(place)?;
+    Some(Found { place, entry })
 }

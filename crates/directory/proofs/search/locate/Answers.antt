@@ -1,70 +1,59 @@
--- `locate` meets its contract. The loop's invariant: the name is among all entries where it is among those from c on, the same one
--- is the first that has it, its place is counted on from there, and the directory's reading comes to c. Assumes nothing.
-use mathlib.Core.Path.{refl, sym, ap, ◌∙◌}
-use mathlib.Core.List.{[]}
+-- `locate` meets its contract. The loop's invariant: of all entries those before the iterator's have another name, and the directory's
+-- reading comes to the iterator's cursor. Assumes nothing.
+use mathlib.Core.Path.{sym, ap, ◌∙◌}
+use mathlib.Core.Logic.{inl}
 use native.Mathlib.Omega.{arith}
-use Rattle.model.specs.Lists.{any}
-use Rattle.model.specs.Directory.{named}
-use Rattle.directory.specs.Cursor.{rest_of}
-use Rattle.directory.specs.Search.{FirstNamed}
-use Rattle.directory.proofs.Tests.{any_pass, any_fail, first_pass, first_fail, place_pass, place_fail}
+use Rattle.std.specs.Iterator.Adapters.{enumerate_source, enumerate_count}
+use Rattle.directory.specs.declared.iterator.Entries.{Entries}
+use Rattle.directory.specs.Cursor.{rest_of, ahead}
+use Rattle.directory.proofs.Tests.{onward_start, onward_more, onward_found, onward_end}
 use Rattle.directory.proofs.search.locate.Goals as goal
 
-pub loop-entry-init : goal.loop-entry-init
-loop-entry-init c = (c.requires, omega arith, refl, refl, omega arith, λ base blocks k. k)
+pub loop-place-init : goal.loop-place-init
+loop-place-init c =
+    let it = c.into_iter-place-iterator.ensures.into_iter_gives in
+    let none = ap enumerate_count it ∙ c.enumerate-place-items.ensures.count in
+    let s = ap enumerate_source it ∙ c.enumerate-place-items.ensures.source in
+    let cursor = ap (λ (s : Entries). s.cursor) s ∙ c.entries.ensures.1 in
+    record {
+      can = (tt, tt, inl (omega (arith, none, ap ahead cursor)));
+      image = ap (λ (s : Entries). s.image.now) s ∙ c.entries.ensures.0;
+      onward = onward_start _ _ (ap (rest_of c.args.image.now) cursor) none;
+      comes = λ base blocks h. rw cursor h;
+    }
 
 pub has_name-requires : goal.has_name-requires
 has_name-requires c =
-    let step = c.in-Some.ensures in
+    let step = rw c.loop-place.invariant.image at c.in-Some.ensures.steps.0.1 in
     record { stands = step.moves.stands; folds = c.fold_table-fold.ensures.folds }
 
 pub returns-then-has_name : goal.returns-then-has_name
 returns-then-has_name c =
-    let step = c.in-Some.ensures in
-    let l = c.loop-entry in
-    let m = step.moves in
-    let has = sym c.has_name.ensures ∙ c.if-has_name.true in
-    let a = c.args in
-    let place = place_pass m.rest (named a.name.now) has in
-    let found : FirstNamed a.image.now a.name.now (rest_of a.image.now a.from) l.place c.in-Some.entry = record {
-      exists = l.invariant.2 ∙ any_pass m.rest _ has;
-      there = omega arith;
-      bytes = sym (l.invariant.3 ∙ first_pass m.rest _ [] has);
-      stands = m.stands;
-    } in
+    let l = c.loop-place.invariant in
+    let m = (rw l.image at c.in-Some.ensures.steps.0.1).moves in
+    let f = onward_found l.onward m.rest (sym c.has_name.ensures ∙ c.if-has_name.true) in
     record {
-      finds = found;
-      located = λ base blocks h. m.lies base blocks (l.invariant.5 base blocks h);
+      finds = record {
+        exists = f.0;
+        there = c.in-Some.ensures.steps.1 ∙ f.1;
+        bytes = f.2;
+        stands = m.stands;
+      };
+      located = λ base blocks h. m.lies base blocks (l.comes base blocks h);
     }
 
-pub overflow_add-place : goal.overflow_add-place
-overflow_add-place c =
-    let step = c.in-Some.ensures in
-    omega (arith, step.moves)
-
-pub loop-entry-smaller : goal.loop-entry-smaller
-loop-entry-smaller c =
-    let step = c.in-Some.ensures in
-    step.moves.less
-
-pub loop-entry-preserved : goal.loop-entry-preserved
-loop-entry-preserved c =
-    let step = c.in-Some.ensures in
-    let l = c.loop-entry in
-    let m = step.moves in
-    let not = sym c.has_name.ensures ∙ c.if-has_name.false in
-    let place = place_fail m.rest (named c.args.name.now) not in (
-      step.passes,
-      omega arith,
-      l.invariant.2 ∙ any_fail m.rest _ not,
-      l.invariant.3 ∙ first_fail m.rest _ [] not,
-      omega arith,
-      λ base blocks h. m.comes base blocks (l.invariant.5 base blocks h),
-    )
+pub loop-place-preserved : goal.loop-place-preserved
+loop-place-preserved c =
+    let l = c.loop-place.invariant in
+    let m = (rw l.image at c.in-Some.ensures.steps.0.1).moves in
+    record {
+      can = c.in-Some.ensures.goes.keeps;
+      image = c.in-Some.ensures.steps.0.0 ∙ l.image;
+      onward = rw (c.in-Some.ensures.steps.2) (onward_more l.onward m.rest (sym c.has_name.ensures ∙ c.if-has_name.false));
+      comes = λ base blocks h. m.comes base blocks (l.comes base blocks h);
+    }
 
 pub returns : goal.returns
-unfolding any
-returns c = record {
-  finds = c.loop-entry.invariant.2 ∙ ap (any _) c.in_default.ensures;
-  located = tt;
-}
+returns c =
+    let l = c.loop-place.invariant in
+    record { finds = (onward_end l.onward (rw l.image at c.in-None.ensures.steps.0)).0; located = tt }
