@@ -48,12 +48,10 @@ fn clashes_behind(image: &[u8], from: Cursor, e: EntryAt, fold: &[u8; 256]) -> b
     requires folds { Folds fold.now }
     ensures { result ≡ any (clash (bytes_at image.now e)) (rest_of image.now from) }
 {
-    let mut c = from;
-    while let Some((d, behind)) = c.advance(image) {
+    for d in from.entries(image) {
         if clashes(image, e, d, fold) {
             return true;
         }
-        c = behind;
     }
     false
 }

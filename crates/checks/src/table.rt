@@ -126,12 +126,10 @@ fn insert_all(
     requires all_free { AllFree table.old }
     ensures { Compares field (rest_of image.now from) result }
 {
-    let mut c = from;
-    while let Some((e, behind)) = c.advance(image) {
+    for e in from.entries(image) {
         match probe(image, table, e, field, fold) {
             Slot::Free(i) => {
                 table[i] = (e.start + 1) as u32;
-                c = behind;
             }
             Slot::Equal => {
                 return Compared::Repeated;

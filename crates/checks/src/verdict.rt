@@ -47,8 +47,7 @@ fn claim_all(
     requires passes { Passes image.now from }
     ensures { Claims (decoded_entry entries.now) n a marks.old (forks_in (rest_of image.now from)) result marks.new }
 {
-    let mut c = from;
-    while let Some((e, behind)) = c.advance(image) {
+    for e in from.entries(image) {
         let data = directory::read_fork(image, e, Fork::Data);
         if !blockmap::claim_fork(entries, n, a, data, marks) {
             return false;
@@ -57,7 +56,6 @@ fn claim_all(
         if !blockmap::claim_fork(entries, n, a, resource, marks) {
             return false;
         }
-        c = behind;
     }
     true
 }

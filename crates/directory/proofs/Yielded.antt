@@ -15,6 +15,11 @@ use Rattle.directory.specs.Entries.{Reads}
 use Rattle.directory.specs.Search.{Placed}
 use Rattle.directory.proofs.Tests.{at_first, at_later}
 
+-- a loop over the entries begins at their cursor
+pub begun : {image : List ℕ} {from : Cursor} {s made : Entries} → s ≡ made → (made.image.now ≡ image) × (made.cursor ≡ from)
+    → (s.image.now ≡ image) × (s.cursor ≡ from)
+begun g k = (ap (λ (s : Entries). s.image.now) g ∙ k.0, ap (λ (s : Entries). s.cursor) g ∙ k.1)
+
 -- d stands behind the entries xs from c on
 record Behind (image : List ℕ) (c d : Cursor) (xs : List EntryAt) : Type 0 where
   count : length (rest_of image c) ≡ length xs + length (rest_of image d)

@@ -1,16 +1,19 @@
--- `clashes_behind` meets its contract. The loop's invariant: the entry clashes with one where it does with one from c on. Assumes
--- nothing.
+-- `clashes_behind` meets its contract. The loop's invariant: the entry clashes with one where it does with one that the iterator has left.
+-- Assumes nothing.
 use mathlib.Core.Path.{refl, sym, ap, ◌∙◌}
 use Rattle.model.specs.Lists.{any}
 use Rattle.directory.proofs.Tests.{any_pass, any_fail}
+use Rattle.directory.proofs.Yielded.{begun}
 use Rattle.checks.proofs.pairs.clashes_behind.Goals as goal
 
 pub loop-d-init : goal.loop-d-init
-loop-d-init c = (c.requires.passes, refl)
+loop-d-init c =
+    let at = begun c.into_iter-d-iterator.ensures.into_iter_gives c.entries-d-items.ensures in
+    record { same = at.0; exists = rw at.1 refl }
 
 pub clashes-requires : goal.clashes-requires
 clashes-requires c =
-    let step = c.in-Some.ensures in
+    let step = rw c.loop-d.invariant.same at c.in-Some.ensures.steps.1 in
     record {
       stands = c.requires.stands;
       stands_2 = step.moves.stands;
@@ -19,19 +22,21 @@ clashes-requires c =
 
 pub returns-then-clashes : goal.returns-then-clashes
 returns-then-clashes c =
-    let step = c.in-Some.ensures in
-    sym (c.loop-d.invariant.1 ∙ any_pass step.moves.rest _ (sym c.clashes.ensures ∙ c.if-clashes.true))
-
-pub loop-d-smaller : goal.loop-d-smaller
-loop-d-smaller c =
-    let step = c.in-Some.ensures in
-    step.moves.less
+    let l = c.loop-d.invariant in
+    let step = rw l.same at c.in-Some.ensures.steps.1 in
+    sym (l.exists ∙ any_pass step.moves.rest _ (sym c.clashes.ensures ∙ c.if-clashes.true))
 
 pub loop-d-preserved : goal.loop-d-preserved
 loop-d-preserved c =
-    let step = c.in-Some.ensures in
-    (step.passes, c.loop-d.invariant.1 ∙ any_fail step.moves.rest _ (sym c.clashes.ensures ∙ c.if-clashes.false))
+    let l = c.loop-d.invariant in
+    let step = rw l.same at c.in-Some.ensures.steps.1 in
+    record {
+      same = c.in-Some.ensures.steps.0 ∙ l.same;
+      exists = l.exists ∙ any_fail step.moves.rest _ (sym c.clashes.ensures ∙ c.if-clashes.false);
+    }
 
 pub returns : goal.returns
 unfolding any
-returns c = sym (c.loop-d.invariant.1 ∙ ap (any _) c.in_default.ensures)
+returns c =
+    let l = c.loop-d.invariant in
+    sym (l.exists ∙ ap (any _) (rw l.same at c.in-None.ensures.steps))

@@ -4,9 +4,9 @@ use mathlib.Core.Path.{sym, ap, ◌∙◌}
 use mathlib.Core.Logic.{inl}
 use native.Mathlib.Omega.{arith}
 use Rattle.std.specs.Iterator.Adapters.{enumerate_source, enumerate_count}
-use Rattle.directory.specs.declared.iterator.Entries.{Entries}
 use Rattle.directory.specs.Cursor.{rest_of, ahead}
 use Rattle.directory.proofs.Tests.{onward_start, onward_more, onward_found, onward_end}
+use Rattle.directory.proofs.Yielded.{begun}
 use Rattle.directory.proofs.search.locate.Goals as goal
 
 pub loop-place-init : goal.loop-place-init
@@ -14,12 +14,12 @@ loop-place-init c =
     let it = c.into_iter-place-iterator.ensures.into_iter_gives in
     let none = ap enumerate_count it ∙ c.enumerate-place-items.ensures.count in
     let s = ap enumerate_source it ∙ c.enumerate-place-items.ensures.source in
-    let cursor = ap (λ (s : Entries). s.cursor) s ∙ c.entries.ensures.1 in
+    let at = begun s c.entries.ensures in
     record {
-      can = (tt, tt, inl (omega (arith, none, ap ahead cursor)));
-      image = ap (λ (s : Entries). s.image.now) s ∙ c.entries.ensures.0;
-      onward = onward_start _ _ (ap (rest_of c.args.image.now) cursor) none;
-      comes = λ base blocks h. rw cursor h;
+      can = (tt, tt, inl (omega (arith, none, ap ahead at.1)));
+      image = at.0;
+      onward = onward_start _ _ (ap (rest_of c.args.image.now) at.1) none;
+      comes = λ base blocks h. rw at.1 h;
     }
 
 pub has_name-requires : goal.has_name-requires
