@@ -1,6 +1,5 @@
 pub mod Firing
 pub mod Numbered
-pub mod GoodNumbers
 pub mod Clashes
 pub mod Distinct
 pub mod Homes

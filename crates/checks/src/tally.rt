@@ -6,11 +6,9 @@ ghost use Rattle.checks.specs.Tallied.{Tallied};
 
 use directory::{BadEntry, Cursor, EntryAt, number_of};
 
-// Whether check 6 fires, and where it does not, how many entries there are and whether each file number is above 0 and below
-// the next one.
+// How many entries there are, and whether each file number is above 0 and below the next one.
 #[derive(Clone, Copy)]
 pub struct Tally {
-    pub bad: bool,
     pub count: usize,
     pub numbered: bool,
 }
@@ -21,43 +19,21 @@ fn good_number(image: &[u8], e: EntryAt, next: u32) -> bool
     ensures { result ≡ good_number next (bytes_at image.now e) }
 {
     let number = number_of(image, e);
-    if number == 0 {
-        return false;
-    }
-    number < next
+    0 < number && number < next
 }
 
-// Check 6, and the count of entries and the test of their file numbers for check 7.
-pub fn count_entries(image: &[u8], from: Cursor, next: u32) -> Tally
+// Check 6, and where it does not fire, the count of entries and the test of their file numbers for check 7.
+pub fn count_entries(image: &[u8], from: Cursor, next: u32) -> Result<Tally, BadEntry>
     requires { CursorFits image.now from }
     ensures { Tallied next (rest_of image.now from) result }
 {
     let mut c = from;
     let mut count: usize = 0;
     let mut numbered = true;
-    loop {
-        match c.next(image) {
-            Ok(Some((e, behind))) => {
-                if !good_number(image, e, next) {
-                    numbered = false;
-                }
-                count += 1;
-                c = behind;
-            }
-            Ok(None) => {
-                return Tally {
-                    bad: false,
-                    count,
-                    numbered,
-                };
-            }
-            Err(BadEntry) => {
-                return Tally {
-                    bad: true,
-                    count,
-                    numbered,
-                };
-            }
-        }
+    while let Some((e, behind)) = c.next(image)? {
+        numbered &= good_number(image, e, next);
+        count += 1;
+        c = behind;
     }
+    Ok(Tally { count, numbered })
 }

@@ -18,10 +18,7 @@ fn judge_directory(image: &[u8], c: Cursor, files: u16, next: u32) -> Result<(),
     requires { CursorFits image.now c }
     ensures { done_number result ≡ directory_number files next (rest_of image.now c) }
 {
-    let t = crate::tally::count_entries(image, c, next);
-    if t.bad {
-        return Err(Refusal::BadEntry);
-    }
+    let t = crate::tally::count_entries(image, c, next)?;
     if t.count != files as usize {
         return Err(Refusal::BadFiles);
     }

@@ -1,21 +1,18 @@
 -- Laws of the tests over entries es, of which x is the first and xs are the others.
 use Prim.Native.Nat.{ℕ, zero, suc, ◌+◌, ◌-◌}
 use mathlib.Core.Path.{◌≡◌, refl, sym, ap, ◌∙◌}
-use mathlib.Core.Bool.{Bool, true, false, ◌&&◌, and-false}
+use mathlib.Core.Bool.{Bool, true, false, ◌&&◌}
+use Rattle.std.proofs.Math.Bool.{and_assoc}
 use mathlib.Core.List.{List, [], ◌∷◌}
 use native.Mathlib.Omega.{arith}
 use lib.ListN.{length, get_or}
 use Rattle.model.specs.Lists.{every, any, first, place_of}
 
 module _ {A : Type 0} {es xs : List A} {x : A} (r : es ≡ x ∷ xs) (p : A → Bool) where
-  -- n says whether every one before x passes, m whether x does so too
-  pub every_pass : (n m : Bool) → p x ≡ true → m ≡ n → (n && every p es) ≡ (m && every p xs)
+  -- n says whether every one before x passes
+  pub every_more : (n : Bool) → (n && every p es) ≡ (n && p x && every p xs)
   unfolding every
-  every_pass n m h e = rw (r, h, e)
-
-  pub every_fail : (n m : Bool) → p x ≡ false → m ≡ false → (n && every p es) ≡ (m && every p xs)
-  unfolding every
-  every_fail n m h e = rw (r, h, e, and-false n)
+  every_more n = rw (r, and_assoc n (p x) (every p xs))
 
   pub any_pass : p x ≡ true → any p es ≡ true
   unfolding any

@@ -2,6 +2,9 @@
 // found in a directory that was not checked.
 #![tactic(auto)]
 
+ghost use Rattle.std.specs.Prelude.{◌≡◌};
+ghost use Rattle.model.specs.declared.refusal.Refusal.TheVariants as refusal;
+
 mod fields;
 mod folds;
 mod iterator;
@@ -14,12 +17,11 @@ mod search;
 pub use fields::{fork_place, number_of, read_entry, read_fork};
 pub use folds::fold_table;
 pub use iterator::Entries;
+use model::Refusal;
 pub use names::same_name;
 pub use places::entry_size;
 pub use quick::quick_locate;
 pub use search::{entry_at, locate};
-use std::error::Error;
-use std::fmt;
 
 // A place in the directory's reading.
 #[derive(Clone, Copy)]
@@ -44,13 +46,13 @@ pub struct EntryAt {
 #[derive(Clone, Copy, Debug, PartialEq, Eq)]
 pub struct BadEntry;
 
-impl fmt::Display for BadEntry {
-    fn fmt<W: fmt::Write>(&self, f: &mut fmt::Formatter<W>) -> fmt::Result {
-        write!(f, "a directory entry that check 6 refuses")
+impl From<BadEntry> for Refusal {
+    ghost from_gives = { λ _ r. r ≡ refusal.BadEntry };
+
+    fn from(_: BadEntry) -> Refusal {
+        Refusal::BadEntry
     }
 }
-
-impl Error for BadEntry {}
 
 // An entry that a search found, with its place in directory order.
 #[derive(Clone, Copy)]

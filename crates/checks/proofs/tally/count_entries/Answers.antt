@@ -1,75 +1,75 @@
--- `count_entries` meets its contract. The loop's invariant: check 6 fires for the entries from c on where it does for all, those
--- with the ones counted are all, and so it is with their file numbers. Assumes nothing.
+-- `count_entries` meets its contract. The loop's invariant: check 6 fires for the entries from c on where it does for all, those with the
+-- ones counted are all, and so it is with their file numbers. Assumes nothing.
 use Prim.Native.Nat.{ℕ}
 use mathlib.Core.Path.{◌≡◌, refl, sym, ap, ◌∙◌}
-use mathlib.Core.Bool.{◌&&◌, and-true}
-use mathlib.Core.List.{List, []}
+use mathlib.Core.Bool.{true, ◌&&◌, and-true}
+use mathlib.Core.List.{List}
 use native.Mathlib.Omega.{arith}
 use lib.ListN.{length}
 use Rattle.model.specs.Lists.{every}
-use Rattle.model.specs.Check.{good_number}
-use Rattle.directory.specs.Cursor.{rest_of, Moves}
-use Rattle.directory.proofs.Each.{six_more, six_none, six_fails, differs}
-use Rattle.directory.proofs.Tests.{every_pass, every_fail}
-use Rattle.checks.proofs.tally.count_entries.Goals.{then-not-good_number, else-not-good_number}
+use Rattle.model.specs.Check.{fires6, good_number}
+use Rattle.std.specs.Prelude.{Result, Ok, Err, IsErr}
+use Rattle.directory.specs.declared.BadEntry.{BadEntry}
+use Rattle.checks.specs.declared.tally.Tally.{Tally}
+use Rattle.directory.specs.Cursor.{Moves}
+use Rattle.checks.specs.Tallied.{Tallied}
+use Rattle.directory.proofs.Each.{six_more, six_none, six_fails}
+use Rattle.directory.proofs.Tests.{every_more}
+use Rattle.checks.proofs.tally.count_entries.Goals.{In-Some}
 use Rattle.checks.proofs.tally.count_entries.Goals as goal
 
+err : (next : ℕ) (es : List (List ℕ)) (r : Result Tally BadEntry) → IsErr r → fires6 es ≡ true → Tallied next es r
+err next es (Ok t) i h = absurd (cc)
+err next es (Err e) i h = h
+
+step : (c : In-Some) → Moves c.args.image.now c.loop-e.c c.in-Some.e c.in-Some.behind
+step c = rw c.in-Some.is at c.in_ok-e.ensures
+
 pub loop-e-init : goal.loop-e-init
-loop-e-init c = (c.requires, omega arith, refl, omega arith, refl)
+loop-e-init c = record {
+  fits = c.requires;
+  few = omega arith;
+  six = refl;
+  counted = omega arith;
+  tested = refl;
+}
 
 pub next-requires : goal.next-requires
-next-requires c = c.loop-e.invariant.0
+next-requires c = c.loop-e.invariant.fits
 
-pub good_number-requires : goal.good_number-requires
-good_number-requires c =
-    let step : Moves c.args.image.now c.loop-e.c c.in-Ok-Some.e c.in-Ok-Some.behind = rw c.in-Ok-Some.field-0-is at c.in-Ok-Some.ensures in
-    step.stands
+pub good_number-numbered-requires : goal.good_number-numbered-requires
+good_number-numbered-requires c = (step (goal.at.good_number-numbered-requires c).In-Some).stands
 
 pub overflow_add-count : goal.overflow_add-count
-overflow_add-count c =
-    let step : Moves c.args.image.now c.loop-e.c c.in-Ok-Some.e c.in-Ok-Some.behind = rw c.in-Ok-Some.field-0-is at c.in-Ok-Some.ensures in
-    omega (arith, step)
+overflow_add-count c = omega (arith, (step (goal.at.overflow_add-count c).In-Some).less)
 
 pub loop-e-smaller : goal.loop-e-smaller
-loop-e-smaller c =
-    let step : Moves c.args.image.now c.loop-e.c c.in-Ok-Some.e c.in-Ok-Some.behind = rw c.in-Ok-Some.field-0-is at c.in-Ok-Some.ensures in
-    omega (arith, step)
+loop-e-smaller c = (step (goal.at.loop-e-smaller c).In-Some).less
 
 pub loop-e-preserved : goal.loop-e-preserved
 loop-e-preserved c =
-    let step : Moves c.args.image.now c.loop-e.c c.in-Ok-Some.e c.in-Ok-Some.behind = rw c.in-Ok-Some.field-0-is at c.in-Ok-Some.ensures in
+    let m = step (goal.at.loop-e-preserved c).In-Some in
     let l = c.loop-e in
-    let m = step in
-    let long = ap (length {A = List ℕ}) m.rest in
-    let good = sym c.good_number.ensures in (
-      m.fits,
-      omega arith,
-      l.invariant.2 ∙ six_more m,
-      omega arith,
-      l.invariant.4 ∙ elim c.if-not-good_number.branch [
-        | then-not-good_number w ↦ every_fail m.rest (good_number _) l.numbered c.if-not-good_number.numbered (good ∙ w.if-not-good_number.true) w.numbered-is
-        | else-not-good_number w ↦ every_pass m.rest (good_number _) l.numbered c.if-not-good_number.numbered (good ∙ w.if-not-good_number.false) w.numbered-is
-      ],
-    )
+    record {
+      fits = m.fits;
+      few = omega (arith, m.less);
+      six = l.invariant.six ∙ six_more m;
+      counted = omega (arith, ap (length {A = List ℕ}) m.rest);
+      tested = l.invariant.tested ∙ rw c.good_number-numbered.ensures (every_more m.rest (good_number c.args.next) l.numbered);
+    }
 
-pub returns-in-Ok-None : goal.returns-in-Ok-None
+pub returns : goal.returns
 unfolding every
-returns-in-Ok-None c =
+returns c =
     let l = c.loop-e in
-    let a = c.args in
-    let none : rest_of a.image.now l.c ≡ [] = rw c.in-Ok-None.field-0-is at c.in-Ok-None.ensures in
-    let long = ap (length {A = List ℕ}) none in
+    let none = rw c.in_default.is at c.in_ok-e.ensures in
     record {
-      six = sym (l.invariant.2 ∙ six_none none);
-      counted = λ _. omega arith;
-      tested = λ _. sym (l.invariant.4 ∙ ap (λ (es : List (List ℕ)). l.numbered && every (good_number a.next) es) none ∙ and-true l.numbered);
+      six = l.invariant.six ∙ six_none none;
+      counted = omega (arith, ap (length {A = List ℕ}) none);
+      tested =
+          sym (l.invariant.tested ∙ ap (λ (es : List (List ℕ)). l.numbered && every (good_number c.args.next) es) none ∙ and-true l.numbered);
     }
 
-pub returns-in-Err : goal.returns-in-Err
-returns-in-Err c =
-    let l = c.loop-e in
-    record {
-      six = sym (l.invariant.2 ∙ six_fails c.in-Err.ensures);
-      counted = λ h. absurd (differs h);
-      tested = λ h. absurd (differs h);
-    }
+pub returns-in_err-e : goal.returns-in_err-e
+returns-in_err-e c =
+    err _ _ _ c.from_residual.ensures.0 (c.loop-e.invariant.six ∙ six_fails c.in_err-e.ensures)
