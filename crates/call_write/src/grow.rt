@@ -7,7 +7,7 @@ ghost use Rattle.files.specs.Lookup.{ForkAt};
 
 use directory::EntryAt;
 use entries::put_free;
-use forks::{fill_fork, larger};
+use forks::fill_fork;
 use model::{AllocationBlock, Fork, ForkFacts, VolumeFacts, block_count};
 
 // Joins so many new blocks to the fork g, stores the bytes from the offset on, then the fork's fields and the free count.
@@ -34,7 +34,7 @@ pub fn grow_fork(
     fill_fork(image, f.allocation_start, a, start, blocks, offset, bytes);
     let after = ForkFacts {
         start: AllocationBlock(first),
-        logical: larger(g.logical as usize, offset + bytes.len()) as u32,
+        logical: (g.logical as usize).max(offset + bytes.len()) as u32,
         physical: blocks as u32 * a,
     };
     entries::store_fork(image, e, fork, after, changed);

@@ -23,11 +23,8 @@ pub fn serve_write(
     let named = changeable_fork(image, f, name, fork, offset)?;
     let (e, g) = (named.entry, named.facts);
     let at = offset as usize;
-    let needed = needed_blocks(f, g, at, bytes.len());
-    if needed.number != 0 {
-        return Err(Refusal::VolumeFull);
-    }
-    let taken = taken_blocks(f, g, f.free_blocks, needed.blocks);
+    let needed = needed_blocks(f, g, at, bytes.len())?;
+    let taken = taken_blocks(f, g, f.free_blocks, needed);
     crate::grow::grow_fork(image, f, e, fork, g, taken, at, bytes, changed);
     Ok(())
 }

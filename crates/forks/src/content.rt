@@ -1,5 +1,5 @@
 // The bytes of a fork, block by block.
-ghost use Rattle.std.specs.Prelude.{◌≡◌, ◌++◌, ◌+◌, ◌*◌, ◌%◌, ◌≤◌, ◌<◌, min, length, drop};
+ghost use Rattle.std.specs.Prelude.{◌≡◌, ◌++◌, ◌+◌, ◌*◌, ◌%◌, ◌≤◌, ◌<◌, length, drop};
 ghost use Rattle.model.specs.Bytes.{part};
 ghost use Rattle.model.specs.Facts.{block_byte};
 ghost use Rattle.model.specs.Calls.{fork_bytes, put_content, read_count, copied};
@@ -7,15 +7,6 @@ ghost use Rattle.model.specs.Map.{map_entry, chain_blocks};
 ghost use Rattle.forks.specs.Content.{Copyable, Fillable};
 
 use model::{AllocationBlock, ForkFacts, LogicalBlock, copy_part};
-
-fn smaller(a: usize, b: usize) -> usize
-    ensures { result ≡ min a b }
-{
-    if a < b {
-        return a;
-    }
-    b
-}
 
 // The image's byte at a place within allocation block b.
 fn byte_in(b: AllocationBlock, start: LogicalBlock, size: u32, within: usize) -> usize
@@ -43,7 +34,7 @@ fn copy_blocks(
     let mut within = offset % a;
     let mut done = 0;
     loop {
-        let n = smaller(a - within, count - done);
+        let n = (a - within).min(count - done);
         let from = byte_in(b, start, size, within);
         copy_part(image, from, buffer, done, n);
         done += n;
@@ -68,7 +59,7 @@ pub fn copy_fork(
     ensures count { result ≡ read_count (length buffer.old) g.logical offset }
     ensures bytes { buffer.new ≡ copied (fork_bytes start size image.now g) offset buffer.old }
 {
-    let count = smaller(buffer.len(), g.logical as usize - offset);
+    let count = buffer.len().min(g.logical as usize - offset);
     if count == 0 {
         return 0;
     }
@@ -98,7 +89,7 @@ pub fn fill_fork(
     let mut at = offset % a;
     let mut stored = 0;
     loop {
-        let n = smaller(a - at, count - stored);
+        let n = (a - at).min(count - stored);
         let to = byte_in(block, start, size, at);
         copy_part(bytes, stored, image, to, n);
         stored += n;

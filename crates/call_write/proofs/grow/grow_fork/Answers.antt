@@ -115,9 +115,6 @@ overflow_add-offset c =
     let bytes_most : (c.args.g.physical / A c.args.f + c.args.new) * A c.args.f ≤ 20971520 = grown_most held c.args.fork c.args.g c.requires.fork_at.is c.args.new c.requires.offset_le_logical.2 in
     second_fits _ _ _ bytes_fit bytes_most
 
-pub larger-requires : goal.larger-requires
-larger-requires c = tt
-
 pub overflow_cast-after : goal.overflow_cast-after
 overflow_cast-after c =
     let held : FileAt c.args.f c.args.image.now c.args.e = c.requires.fork_at.held in
@@ -125,7 +122,7 @@ overflow_cast-after c =
     ≤ (c.args.g.physical / A c.args.f + c.args.new) * A c.args.f = grown_fits held c.args.fork c.args.g c.requires.fork_at.is c.args.new c.requires.offset_le_logical.2
     c.args.offset c.args.bytes.now c.requires.offset_le_logical.0 c.requires.offset_le_logical.1 in
     let bytes_most : (c.args.g.physical / A c.args.f + c.args.new) * A c.args.f ≤ 20971520 = grown_most held c.args.fork c.args.g c.requires.fork_at.is c.args.new c.requires.offset_le_logical.2 in
-    larger_fits _ _ _ _ c.larger.ensures bytes_fit bytes_most
+    larger_fits _ _ _ _ c.max.ensures bytes_fit bytes_most
 
 pub store_fork-requires : goal.store_fork-requires
 unfolding block_count
@@ -165,9 +162,9 @@ returns c =
     c.args.offset c.args.bytes.now c.fill_fork.new.image (rw has_is at c.fill_fork.ensures) in
     λ h. grown_written h c.args.fork c.args.g c.requires.fork_at.is c.args.new c.requires.offset_le_logical.2
     c.args.offset c.args.bytes.now c.requires.offset_le_logical.0 c.requires.offset_le_logical.1
-    c.fill_fork.new.image c.store_fork.new.image c.put_free.new.image c.extend-start.result.0 c.larger.result
+    c.fill_fork.new.image c.store_fork.new.image c.put_free.new.image c.extend-start.result.0 c.max.result
     (c.block_count-has.result + c.args.new) c.args.changed
-    stored first_is c.larger.ensures (ap (λ (n : ℕ). n + c.args.new) has_is) c.store_fork.ensures c.put_free.ensures
+    stored first_is c.max.ensures (ap (λ (n : ℕ). n + c.args.new) has_is) c.store_fork.ensures c.put_free.ensures
 
 pub overflow_cast-after-2 : goal.overflow_cast-after-2
 unfolding block_count

@@ -58,7 +58,7 @@ copy_part-requires c =
     block_byte a.start a.size c.loop-done.b + a.size ≤ length a.image.now = let a = c.args in
     onward_lies a.image.now a.start a.size (drop c.loop-done.done due) c.loop-done.b.0 c.loop-done.within goes_on in
     let turn : let a = c.args in
-    Turn c.smaller-n.result a.size c.loop-done.within a.count c.loop-done.done = let m = c.loop-done.invariant in a_turn _ _ _ _ _ c.smaller-n.ensures m.here m.more in
+    Turn c.min-n.result a.size c.loop-done.within a.count c.loop-done.done = let m = c.loop-done.invariant in a_turn _ _ _ _ _ c.min-n.ensures m.here m.more in
     (from_within _ _ _ _ _ _ c.byte_in-from.ensures lies turn.in_block, to_within _ _ _ _ turn.in_count c.loop-done.invariant.size c.requires.3)
 
 pub returns-then-count-done : goal.returns-then-count-done
@@ -72,16 +72,16 @@ returns-then-count-done c =
     fork_onward a.image.now a.start a.size a.g c.requires.0 a.offset before_end c.block_at-b.result.0
     c.block_at-b.ensures in
     let turn : let a = c.args in
-    Turn c.smaller-n.result a.size c.loop-done.within a.count c.loop-done.done = let m = c.loop-done.invariant in a_turn _ _ _ _ _ c.smaller-n.ensures m.here m.more in
+    Turn c.min-n.result a.size c.loop-done.within a.count c.loop-done.done = let m = c.loop-done.invariant in a_turn _ _ _ _ _ c.min-n.ensures m.here m.more in
     let stored : let a = c.args in
     c.copy_part.new.buffer
-    ≡ paste c.loop-done.buffer c.loop-done.done (drop (block_byte a.start a.size c.loop-done.b + c.loop-done.within) a.image.now) c.smaller-n.result = c.copy_part.ensures ∙ ap (λ q. paste c.loop-done.buffer c.loop-done.done (drop q c.args.image.now) c.smaller-n.result) c.byte_in-from.ensures in
+    ≡ paste c.loop-done.buffer c.loop-done.done (drop (block_byte a.start a.size c.loop-done.b + c.loop-done.within) a.image.now) c.min-n.result = c.copy_part.ensures ∙ ap (λ q. paste c.loop-done.buffer c.loop-done.done (drop q c.args.image.now) c.min-n.result) c.byte_in-from.ensures in
     let a = c.args in
     let xs = due in
-    let end : c.loop-done.done + c.smaller-n.result ≡ a.count = all_done _ _ turn.in_count c.if-count-done.true in
+    let end : c.loop-done.done + c.min-n.result ≡ a.count = all_done _ _ turn.in_count c.if-count-done.true in
     stored
     ∙ midway_copied a.image.now a.start a.size a.count c.block_at-b.result.0 (a.offset % a.size) a.buffer.now
-    c.loop-done.b.0 c.loop-done.within c.loop-done.done c.loop-done.buffer c.loop-done.invariant c.requires.3 c.smaller-n.result
+    c.loop-done.b.0 c.loop-done.within c.loop-done.done c.loop-done.buffer c.loop-done.invariant c.requires.3 c.min-n.result
     turn.in_block turn.in_count xs begins enough
     ∙ ap (λ i. take i xs ++ drop i a.buffer.now) end
     ∙ ap (λ x. x ++ drop a.count a.buffer.now) (fork_part a.image.now a.start a.size a.g c.requires.0 a.offset a.count c.requires.2)
@@ -106,12 +106,12 @@ load-requires c =
 pub loop-done-preserved : goal.loop-done-preserved
 loop-done-preserved c =
     let turn : let a = c.args in
-    Turn c.smaller-n.result a.size c.loop-done.within a.count c.loop-done.done = let m = c.loop-done.invariant in a_turn _ _ _ _ _ c.smaller-n.ensures m.here m.more in
+    Turn c.min-n.result a.size c.loop-done.within a.count c.loop-done.done = let m = c.loop-done.invariant in a_turn _ _ _ _ _ c.min-n.ensures m.here m.more in
     let stored : let a = c.args in
     c.copy_part.new.buffer
-    ≡ paste c.loop-done.buffer c.loop-done.done (drop (block_byte a.start a.size c.loop-done.b + c.loop-done.within) a.image.now) c.smaller-n.result = c.copy_part.ensures ∙ ap (λ q. paste c.loop-done.buffer c.loop-done.done (drop q c.args.image.now) c.smaller-n.result) c.byte_in-from.ensures in
+    ≡ paste c.loop-done.buffer c.loop-done.done (drop (block_byte a.start a.size c.loop-done.b + c.loop-done.within) a.image.now) c.min-n.result = c.copy_part.ensures ∙ ap (λ q. paste c.loop-done.buffer c.loop-done.done (drop q c.args.image.now) c.min-n.result) c.byte_in-from.ensures in
     let a = c.args in
     let more = c.if-count-done.false in
     midway_next a.image.now a.start a.size a.count c.block_at-b.result.0 (a.offset % a.size) a.buffer.now
-    c.loop-done.b.0 c.loop-done.within c.loop-done.done c.loop-done.buffer c.loop-done.invariant c.requires.3 c.smaller-n.result c.load.result
+    c.loop-done.b.0 c.loop-done.within c.loop-done.done c.loop-done.buffer c.loop-done.invariant c.requires.3 c.min-n.result c.load.result
     c.copy_part.new.buffer (turn.whole more) more c.copy_part.auto.buffer stored c.load.ensures.0

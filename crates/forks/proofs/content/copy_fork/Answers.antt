@@ -9,7 +9,7 @@ pub returns-then-count-eq0 : goal.returns-then-count-eq0
 unfolding read_count
 returns-then-count-eq0 c =
     let count_is : let a = c.args in
-    c.smaller-count.result ≡ read_count (length a.buffer.now) a.g.logical a.offset = c.smaller-count.ensures in
+    c.min-count.result ≡ read_count (length a.buffer.now) a.g.logical a.offset = c.min-count.ensures in
     let a = c.args in
     let none = sym c.if-count-eq0.true ∙ count_is in
     record {
@@ -21,9 +21,9 @@ pub returns : goal.returns
 unfolding read_count
 returns c =
     let count_is : let a = c.args in
-    c.smaller-count.result ≡ read_count (length a.buffer.now) a.g.logical a.offset = c.smaller-count.ensures in
+    c.min-count.result ≡ read_count (length a.buffer.now) a.g.logical a.offset = c.min-count.ensures in
     let a = c.args in
-    let n = c.smaller-count.result in record {
+    let n = c.min-count.result in record {
       count = count_is;
       bytes = c.copy_blocks.ensures
           ∙ copied_fork a.image.now a.start a.size a.g c.requires.0 a.offset n a.buffer.now (count_is);

@@ -58,7 +58,7 @@ copy_part-requires c =
     due_lies a.image.now a.start a.size c.loop-stored.image c.loop-stored.block.0 c.loop-stored.at (drop c.loop-stored.stored a.bytes.now) filled
     goes_on in
     let turn : let a = c.args in
-    Turn c.smaller-n.result a.size c.loop-stored.at (length a.bytes.now) c.loop-stored.stored = let m = c.loop-stored.invariant in a_turn _ _ _ _ _ c.smaller-n.ensures m.here m.more in
+    Turn c.min-n.result a.size c.loop-stored.at (length a.bytes.now) c.loop-stored.stored = let m = c.loop-stored.invariant in a_turn _ _ _ _ _ c.min-n.ensures m.here m.more in
     (turn.in_count, from_within _ _ _ _ _ _ c.byte_in-to.ensures lies turn.in_block)
 
 pub returns-then-count-stored : goal.returns-then-count-stored
@@ -71,16 +71,16 @@ returns-then-count-stored c =
     some
     c.block_at-block.result.0 c.block_at-block.ensures in
     let turn : let a = c.args in
-    Turn c.smaller-n.result a.size c.loop-stored.at (length a.bytes.now) c.loop-stored.stored = let m = c.loop-stored.invariant in a_turn _ _ _ _ _ c.smaller-n.ensures m.here m.more in
+    Turn c.min-n.result a.size c.loop-stored.at (length a.bytes.now) c.loop-stored.stored = let m = c.loop-stored.invariant in a_turn _ _ _ _ _ c.min-n.ensures m.here m.more in
     let after : c.copy_part.new.buffer
-    ≡ paste c.loop-stored.image (block_byte c.args.start c.args.size c.loop-stored.block + c.loop-stored.at) (drop c.loop-stored.stored c.args.bytes.now) c.smaller-n.result =
-    c.copy_part.ensures ∙ ap (λ q. paste c.loop-stored.image q (drop c.loop-stored.stored c.args.bytes.now) c.smaller-n.result) c.byte_in-to.ensures in
+    ≡ paste c.loop-stored.image (block_byte c.args.start c.args.size c.loop-stored.block + c.loop-stored.at) (drop c.loop-stored.stored c.args.bytes.now) c.min-n.result =
+    c.copy_part.ensures ∙ ap (λ q. paste c.loop-stored.image q (drop c.loop-stored.stored c.args.bytes.now) c.min-n.result) c.byte_in-to.ensures in
     let a = c.args in
-    let end : c.loop-stored.stored + c.smaller-n.result ≡ length a.bytes.now = all_done _ _ turn.in_count c.if-count-stored.true in
+    let end : c.loop-stored.stored + c.min-n.result ≡ length a.bytes.now = all_done _ _ turn.in_count c.if-count-stored.true in
     after
     ∙ partway_last a.image.now a.start a.size a.bytes.now c.block_at-block.result.0 (a.offset % a.size) c.loop-stored.block.0
     c.loop-stored.at c.loop-stored.stored
-    c.loop-stored.image c.loop-stored.invariant c.smaller-n.result turn.in_block end filled begins
+    c.loop-stored.image c.loop-stored.invariant c.min-n.result turn.in_block end filled begins
 
 pub load-requires : goal.load-requires
 load-requires c =
@@ -103,13 +103,13 @@ load-requires c =
 pub loop-stored-preserved : goal.loop-stored-preserved
 loop-stored-preserved c =
     let turn : let a = c.args in
-    Turn c.smaller-n.result a.size c.loop-stored.at (length a.bytes.now) c.loop-stored.stored = let m = c.loop-stored.invariant in a_turn _ _ _ _ _ c.smaller-n.ensures m.here m.more in
+    Turn c.min-n.result a.size c.loop-stored.at (length a.bytes.now) c.loop-stored.stored = let m = c.loop-stored.invariant in a_turn _ _ _ _ _ c.min-n.ensures m.here m.more in
     let after : c.copy_part.new.buffer
-    ≡ paste c.loop-stored.image (block_byte c.args.start c.args.size c.loop-stored.block + c.loop-stored.at) (drop c.loop-stored.stored c.args.bytes.now) c.smaller-n.result =
-    c.copy_part.ensures ∙ ap (λ q. paste c.loop-stored.image q (drop c.loop-stored.stored c.args.bytes.now) c.smaller-n.result) c.byte_in-to.ensures in
+    ≡ paste c.loop-stored.image (block_byte c.args.start c.args.size c.loop-stored.block + c.loop-stored.at) (drop c.loop-stored.stored c.args.bytes.now) c.min-n.result =
+    c.copy_part.ensures ∙ ap (λ q. paste c.loop-stored.image q (drop c.loop-stored.stored c.args.bytes.now) c.min-n.result) c.byte_in-to.ensures in
     let a = c.args in
     let more = c.if-count-stored.false in
     partway_next a.image.now a.start a.size a.bytes.now c.block_at-block.result.0 (a.offset % a.size) c.loop-stored.block.0
     c.loop-stored.at c.loop-stored.stored
-    c.loop-stored.image c.loop-stored.invariant c.smaller-n.result c.load.result c.copy_part.new.buffer (turn.whole more) more c.copy_part.auto.buffer
+    c.loop-stored.image c.loop-stored.invariant c.min-n.result c.load.result c.copy_part.new.buffer (turn.whole more) more c.copy_part.auto.buffer
     after c.load.ensures.0

@@ -1,40 +1,34 @@
 -- `needed_blocks` meets its contract. Assumes nothing.
-use Prim.Native.Nat.{◌-◌}
-use mathlib.Core.Path.{◌≡◌, refl, sym, ap, ◌∙◌}
+use Prim.Native.Nat.{◌+◌, ◌≤◌, max}
+use mathlib.Core.Path.{◌≡◌, ap, ◌∙◌}
 use native.Mathlib.Omega.{arith}
-use Rattle.model.specs.Calls.{fewest, needed_blocks}
-use Rattle.forks.proofs.Growing.{needed_blocks_lem, too_many, grows, grows_not}
+use Rattle.std.proofs.Common.{rules}
+use Rattle.std.specs.Prelude.{Ok, Err}
+use Rattle.model.specs.Calls.{fewest}
+use Rattle.model.specs.declared.refusal.Refusal.TheVariants.{VolumeFull}
+use Rattle.forks.proofs.Growing.{fewest_ceil, needed_blocks_lem, too_many, grows, grows_not}
 use Rattle.forks.proofs.needs.needed_blocks.Goals as goal
 
-pub returns-then-count-ge-TOO_MANY : goal.returns-then-count-ge-TOO_MANY
-returns-then-count-ge-TOO_MANY c =
+pub returns-in_err-end : goal.returns-in_err-end
+returns-in_err-end c =
     let a = c.args in
-    let more = too_many a.f a.g a.offset a.count c.requires.0 c.requires.1
-    (omega (arith, c.well_formed)) (omega (arith, c.well_formed)) (omega (arith, c.if-count-ge-TOO_MANY.true)) in
-    grows_not a.f a.g a.offset a.count (record { number = 17; blocks = 0 }) more refl refl
-
-pub returns-then-due-has : goal.returns-then-due-has
-returns-then-due-has c =
-    let need : needed_blocks c.args.f c.args.g c.args.offset c.args.count ≡ c.blocks_for-due.result - c.block_count-has.result = let a = c.args in
-    needed_blocks_lem a.f a.g a.offset a.count c.blocks_for-due.result c.block_count-has.result
-    (c.blocks_for-due.ensures ∙ ap (λ x. fewest x a.f.block_size) c.larger-size.ensures) c.block_count-has.ensures in
-    let a = c.args in
-    let none : needed_blocks a.f a.g a.offset a.count ≡ 0 = omega (arith, need, c.if-due-has.true) in
-    grows a.f a.g a.offset a.count (record { number = 0; blocks = 0 }) (omega arith) refl (sym none)
+    let told : c.from_residual.result ≡ Err VolumeFull = search rules in
+    let wraps : 18446744073709551616 ≤ a.offset + a.count = search rules in
+    let more = too_many a.f a.g a.offset a.count c.requires.0 c.requires.1 (omega (arith, c.well_formed)) (omega (arith, c.well_formed)) (omega arith) in
+    rw told (grows_not a.f a.g a.offset a.count more)
 
 pub returns-then-f-need : goal.returns-then-f-need
 returns-then-f-need c =
-    let need : needed_blocks c.args.f c.args.g c.args.offset c.args.count ≡ c.blocks_for-due.result - c.block_count-has.result = let a = c.args in
-    needed_blocks_lem a.f a.g a.offset a.count c.blocks_for-due.result c.block_count-has.result
-    (c.blocks_for-due.ensures ∙ ap (λ x. fewest x a.f.block_size) c.larger-size.ensures) c.block_count-has.ensures in
     let a = c.args in
-    grows_not a.f a.g a.offset a.count (record { number = 17; blocks = 0 }) (omega (arith, need, c.if-f-need.true)) refl refl
+    let size : c.max-size.result ≡ max a.g.logical (a.offset + a.count) = search rules in
+    let due : c.div_ceil-due.result ≡ fewest (max a.g.logical (a.offset + a.count)) a.f.block_size = c.div_ceil-due.ensures ∙ fewest_ceil c.max-size.result a.f.block_size (omega arith) ∙ ap (λ n. fewest n a.f.block_size) size in
+    let need = needed_blocks_lem a.f a.g a.offset a.count c.div_ceil-due.result c.block_count-has.result due c.block_count-has.ensures in
+    grows_not a.f a.g a.offset a.count (omega arith)
 
 pub returns : goal.returns
 returns c =
-    let need : needed_blocks c.args.f c.args.g c.args.offset c.args.count ≡ c.blocks_for-due.result - c.block_count-has.result = let a = c.args in
-    needed_blocks_lem a.f a.g a.offset a.count c.blocks_for-due.result c.block_count-has.result
-    (c.blocks_for-due.ensures ∙ ap (λ x. fewest x a.f.block_size) c.larger-size.ensures) c.block_count-has.ensures in
     let a = c.args in
-    grows a.f a.g a.offset a.count (record { number = 0; blocks = c.blocks_for-due.result - c.block_count-has.result })
-    (omega (arith, need, c.if-f-need.false)) refl (sym need)
+    let size : c.max-size.result ≡ max a.g.logical (a.offset + a.count) = search rules in
+    let due : c.div_ceil-due.result ≡ fewest (max a.g.logical (a.offset + a.count)) a.f.block_size = c.div_ceil-due.ensures ∙ fewest_ceil c.max-size.result a.f.block_size (omega arith) ∙ ap (λ n. fewest n a.f.block_size) size in
+    let need = needed_blocks_lem a.f a.g a.offset a.count c.div_ceil-due.result c.block_count-has.result due c.block_count-has.ensures in
+    grows a.f a.g a.offset a.count (Ok c.saturating_sub-need.result) (omega arith) (ap (λ k. Ok k) (omega arith))
