@@ -5,9 +5,7 @@ ghost use Rattle.wrapped.specs.Happens.{HappensWrapped};
 use crate::changing::{create, cut, delete, write};
 use crate::reading::{block, check, entry, find, read};
 use model::Fork;
-use volume::{
-    Outcome, Wanted, of_block, of_check, of_entry, of_find, of_number, of_quick_find, of_read,
-};
+use volume::{Outcome, Wanted};
 
 // Makes the call that is wanted with what it needs of all this, and gives back what that call gives. A later call than the nine
 // takes the file for a bare image.
@@ -27,17 +25,17 @@ pub fn make_call(
     ensures { HappensWrapped (call_of wanted name.now fork place buffer.old finder.now bytes.now created changed format) file.old result buffer.old buffer.new file.new }
 {
     match wanted {
-        Wanted::Check => of_check(check(file)),
-        Wanted::Entry => of_entry(entry(file, place)),
-        Wanted::Find => of_find(find(file, name)),
-        Wanted::Block => of_block(block(file, name, fork, place)),
-        Wanted::Read => of_read(read(file, name, fork, place, buffer)),
-        Wanted::Create => of_number(create(file, name, finder, created, changed)),
-        Wanted::Write => of_number(write(file, name, fork, place, bytes, changed)),
-        Wanted::Cut => of_number(cut(file, name, fork, place, changed)),
-        Wanted::Delete => of_number(delete(file, name)),
-        Wanted::Wrap => of_number(volume::wrap(file, name, format, buffer)),
-        Wanted::Rename => of_number(volume::rename(file, name, bytes, changed)),
-        Wanted::QuickFind => of_quick_find(volume::quick_find(file, name)),
+        Wanted::Check => Outcome::from(check(file)),
+        Wanted::Entry => Outcome::from(entry(file, place)),
+        Wanted::Find => Outcome::from(find(file, name)),
+        Wanted::Block => Outcome::from(block(file, name, fork, place)),
+        Wanted::Read => Outcome::from(read(file, name, fork, place, buffer)),
+        Wanted::Create => Outcome::from(create(file, name, finder, created, changed)),
+        Wanted::Write => Outcome::from(write(file, name, fork, place, bytes, changed)),
+        Wanted::Cut => Outcome::from(cut(file, name, fork, place, changed)),
+        Wanted::Delete => Outcome::from(delete(file, name)),
+        Wanted::Wrap => Outcome::from(volume::wrap(file, name, format, buffer)),
+        Wanted::Rename => Outcome::from(volume::rename(file, name, bytes, changed)),
+        Wanted::QuickFind => Outcome::from(volume::quick_find(file, name)),
     }
 }

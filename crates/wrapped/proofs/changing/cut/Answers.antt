@@ -1,37 +1,42 @@
 -- `cut` meets its contract. Assumes nothing.
-use mathlib.Core.Path.{◌≡◌, refl, sym, ◌∙◌}
+use Rattle.std.proofs.lemmas.Result.{err_from_is_err_and}
+use mathlib.Core.Path.{refl, sym}
 use native.Mathlib.Omega.{arith}
 use Rattle.model.specs.Bytes.{Bytes}
-use Rattle.model.specs.Container.{container_verdict}
 use Rattle.model.specs.Calls.{Fits, lent, serves_wrapped}
 use Rattle.model.specs.Calls.Call.{cut}
+use Rattle.model.proofs.Refusals.{number_some}
 use Rattle.model.proofs.Container.{reach}
 use Rattle.files.proofs.Octets.{octets}
-use Rattle.wrapped.proofs.Serving.{stopped, changed, room_after}
+use Rattle.wrapped.proofs.Serving.{stopped, changed_not, changed, room_after}
 use Rattle.wrapped.proofs.changing.cut.Goals as goal
 
-pub returns-then-number-ne0 : goal.returns-then-number-ne0
+pub returns-in_err-judge : goal.returns-in_err-judge
 unfolding Fits lent serves_wrapped
-returns-then-number-ne0 c =
+returns-in_err-judge c =
     let file_bytes : Bytes c.args.file.now = octets _ c.slice_known-1.given in
     let a = c.args in
-    stopped _ file_bytes (cut a.name.now a.fork a.size a.changed) _ refl
-    (octets _ c.type_inv.name, omega arith, omega arith) c.judge-number.ensures c.if-number-ne0.true
+    let p = err_from_is_err_and c.from_residual.result c.from_residual.ensures.1 in
+    rw (p.1, p.2)
+    (stopped _ file_bytes (cut a.name.now a.fork a.size a.changed) _ refl (octets _ c.type_inv.name, omega arith, omega arith) c.in_err-judge.ensures (number_some _))
 
 pub slice_bounds-cut-end : goal.slice_bounds-cut-end
-slice_bounds-cut-end c =
-    let passed : container_verdict c.args.file.now ≡ 0 = sym c.judge-number.ensures ∙ c.if-number-ne0.false in
-    reach _ _ c.data_end-end.ensures passed
+slice_bounds-cut-end c = reach _ _ c.data_end-end.ensures (sym c.in_ok-judge.ensures)
 
-pub settle-requires : goal.settle-requires
-settle-requires c =
-    let passed : container_verdict c.args.file.now ≡ 0 = sym c.judge-number.ensures ∙ c.if-number-ne0.false in
-    room_after _ c.cut-number.new.image c.data_end-end.result passed c.cut-number.auto.image
+pub returns-in_err-cut : goal.returns-in_err-cut
+unfolding serves_wrapped
+returns-in_err-cut c =
+    let file_bytes : Bytes c.args.file.now = octets _ c.slice_known-1.given in
+    let p = err_from_is_err_and c.from_residual-in_err-cut.result c.from_residual-in_err-cut.ensures.1 in
+    rw (p.1, p.2)
+    (changed_not _ file_bytes c.data_end-end.result c.data_end-end.ensures c.cut.new.image (sym c.in_ok-judge.ensures) refl _ c.in_err-cut.ensures)
+
+pub renew-requires : goal.renew-requires
+renew-requires c = room_after _ c.cut.new.image c.data_end-end.result (sym c.in_ok-judge.ensures) c.cut.auto.image
 
 pub returns : goal.returns
 unfolding serves_wrapped
 returns c =
     let file_bytes : Bytes c.args.file.now = octets _ c.slice_known-1.given in
-    let passed : container_verdict c.args.file.now ≡ 0 = sym c.judge-number.ensures ∙ c.if-number-ne0.false in
-    changed _ file_bytes c.data_end-end.result c.data_end-end.ensures c.cut-number.new.image c.settle.new.file
-    passed refl c.cut-number.ensures c.cut-number.auto.image c.settle.ensures
+    changed _ file_bytes c.data_end-end.result c.data_end-end.ensures c.cut.new.image (sym c.in_ok-judge.ensures) refl c.cut.auto.image
+    c.renew.new.file c.in_ok-cut.ensures c.renew.ensures
