@@ -1,189 +1,116 @@
-// The fields of a record, as they come on the input. What is wrong with one is told on the output.
-ghost use Rattle.std.specs.Prelude.{◌≡◌, length};
+// The fields of a record, as they come on the input.
+ghost use Rattle.std.specs.Prelude.{◌≤◌, length, IfOk};
 
 use model::Fork;
-use std::io::{Read, Write};
-use text::streams;
+use std::error::Error;
+use std::fmt;
+use std::io::Read;
 
 // The most bytes of a name.
-const MOST_NAME: usize = 1_024;
+pub const MOST_NAME: usize = 1_024;
 
-#[derive(Clone, Copy)]
-pub enum Tag {
-    Is(u8),
-    End,
+// Why a run ends before its input does.
+#[derive(Clone, Copy, Debug, PartialEq, Eq)]
+pub enum Stop {
+    BadRecord,
+    TooLong,
+    Unreadable,
 }
 
-// A number or a length. At Stop the run ends, and what it prints for that is printed.
-#[derive(Clone, Copy)]
-pub enum Field {
-    Is(u64),
-    Stop,
-}
-
-#[derive(Clone, Copy)]
-enum ForkField {
-    Is(Fork),
-    Stop,
-}
-
-#[derive(Clone, Copy)]
-pub enum ByteField {
-    Is(u8),
-    Stop,
-}
-
-#[derive(Clone, Copy)]
-pub enum DateField {
-    Is(u32),
-    Stop,
-}
-
-// The length of a name, a fork of its file, and a place or an offset in that fork.
-#[derive(Clone, Copy)]
-pub enum PlaceField {
-    Is(u64, Fork, u64),
-    Stop,
-}
-
-pub fn bad_record<W: Write>(out: &mut W) -> Field {
-    streams::write_all(out, b"bad record\n");
-    Field::Stop
-}
-
-pub fn too_long<W: Write>(out: &mut W) -> Field {
-    streams::write_all(out, b"too long\n");
-    Field::Stop
-}
-
-// The tag of the next record. A read that fails is told from the input's end, on the output for errors.
-pub fn next_tag<R: Read, E: Write>(input: &mut R, errors: &mut E) -> Tag {
-    let mut b = [0u8; 1];
-    match input.read(&mut b) {
-        Ok(0) => Tag::End,
-        Ok(_) => Tag::Is(b[0]),
-        Err(_) => {
-            streams::write_all(errors, b"replay: standard input can't be read\n");
-            Tag::End
+impl fmt::Display for Stop {
+    fn fmt<W: fmt::Write>(&self, f: &mut fmt::Formatter<W>) -> fmt::Result {
+        match self {
+            Stop::BadRecord => write!(f, "bad record"),
+            Stop::TooLong => write!(f, "too long"),
+            Stop::Unreadable => write!(f, "standard input can't be read"),
         }
     }
 }
 
-fn number16<R: Read, W: Write>(input: &mut R, out: &mut W) -> Field {
-    let mut b = [0u8; 2];
-    if streams::read_full(input, &mut b) != 2 {
-        return bad_record(out);
+impl Error for Stop {}
+
+// The tag of the next record, or none at the input's end.
+pub fn next_tag<R: Read>(reader: &mut R) -> Result<Option<u8>, Stop> {
+    let mut tag = [0];
+    match reader.read(&mut tag) {
+        Ok(0) => Ok(None),
+        Ok(_) => Ok(Some(tag[0])),
+        Err(_) => Err(Stop::Unreadable),
     }
-    Field::Is(model::be16_at(&b, 0) as u64)
 }
 
-pub fn date<R: Read, W: Write>(input: &mut R, out: &mut W) -> DateField {
-    let mut b = [0u8; 4];
-    if streams::read_full(input, &mut b) != 4 {
-        bad_record(out);
-        return DateField::Stop;
-    }
-    DateField::Is(model::be32_at(&b, 0))
+// Within a record, a read that fails is taken for the input's end.
+fn fill<R: Read>(reader: &mut R, space: &mut [u8]) -> Result<(), Stop> {
+    reader.read_exact(space).map_err(|_| Stop::BadRecord)
 }
 
-pub fn number32<R: Read, W: Write>(input: &mut R, out: &mut W) -> Field {
-    let DateField::Is(n) = date(input, out) else {
-        return Field::Stop;
-    };
-    Field::Is(n as u64)
+pub fn array<const N: usize, R: Read>(reader: &mut R) -> Result<[u8; N], Stop> {
+    let mut bytes = [0; N];
+    fill(reader, &mut bytes)?;
+    Ok(bytes)
+}
+
+pub fn byte<R: Read>(reader: &mut R) -> Result<u8, Stop> {
+    Ok(u8::from_be_bytes(array(reader)?))
+}
+
+// A date or a length.
+pub fn number32<R: Read>(reader: &mut R) -> Result<u32, Stop> {
+    Ok(u32::from_be_bytes(array(reader)?))
 }
 
 // A place or an offset.
-pub fn number64<R: Read, W: Write>(input: &mut R, out: &mut W) -> Field {
-    let mut b = [0u8; 8];
-    if streams::read_full(input, &mut b) != 8 {
-        return bad_record(out);
-    }
-    let high = model::be32_at(&b, 0) as u64;
-    let low = model::be32_at(&b, 4) as u64;
-    Field::Is(high * 4_294_967_296 + low)
+pub fn number64<R: Read>(reader: &mut R) -> Result<u64, Stop> {
+    Ok(u64::from_be_bytes(array(reader)?))
 }
 
-// Reads n bytes to the start of the space.
-fn take<R: Read, W: Write>(input: &mut R, out: &mut W, space: &mut [u8], n: u64) -> Field {
-    let count = n as usize;
-    if space.len() < count {
-        return too_long(out);
-    }
-    if streams::read_full(input, &mut space[0..count]) != count {
-        return bad_record(out);
-    }
-    Field::Is(n)
-}
-
-// The length of the bytes that it puts at the start of the space.
-pub fn bytes<R: Read, W: Write>(input: &mut R, out: &mut W, space: &mut [u8]) -> Field {
-    let Field::Is(n) = number32(input, out) else {
-        return Field::Stop;
-    };
-    take(input, out, space, n)
-}
-
-// Room for a name. Only the length is known of it.
-pub fn name_space() -> [u8; MOST_NAME]
-    ensures { 1024 ≡ length result }
+// The first n bytes of the space.
+fn part(space: &mut [u8], n: usize) -> Result<&mut [u8], Stop>
+    ensures { IfOk result (λ s. length s.now ≤ length space.old) }
 {
-    [0; MOST_NAME]
+    space.get_mut(..n).ok_or(Stop::TooLong)
 }
 
-// The length of the name that it puts at the start of the space.
-pub fn name<R: Read, W: Write>(input: &mut R, out: &mut W, space: &mut [u8]) -> Field {
-    let Field::Is(n) = number16(input, out) else {
-        return Field::Stop;
-    };
-    take(input, out, space, n)
+// A length, and the part of the space that is as long.
+pub fn room<'a, R: Read>(reader: &mut R, space: &'a mut [u8]) -> Result<&'a mut [u8], Stop>
+    ensures { IfOk result (λ s. length s.now ≤ length space.old) }
+{
+    let n = number32(reader)?;
+    part(space, n as usize)
 }
 
-// The Finder bytes of a new file.
-pub fn finder<R: Read, W: Write>(input: &mut R, out: &mut W, space: &mut [u8; 16]) -> Field {
-    if streams::read_full(input, space) != 16 {
-        return bad_record(out);
-    }
-    Field::Is(16)
+// The bytes, at the start of the space.
+pub fn bytes<'a, R: Read>(reader: &mut R, space: &'a mut [u8]) -> Result<&'a [u8], Stop>
+    ensures { IfOk result (λ s. length s.now ≤ length space.old) }
+{
+    let read = room(reader, space)?;
+    fill(reader, read)?;
+    Ok(read)
 }
 
-pub fn byte<R: Read, W: Write>(input: &mut R, out: &mut W) -> ByteField {
-    let mut b = [0u8; 1];
-    if streams::read_full(input, &mut b) != 1 {
-        bad_record(out);
-        return ByteField::Stop;
-    }
-    ByteField::Is(b[0])
+// The name, at the start of the space.
+pub fn name<'a, R: Read>(reader: &mut R, space: &'a mut [u8]) -> Result<&'a [u8], Stop> {
+    let n = u16::from_be_bytes(array(reader)?);
+    let read = part(space, n as usize)?;
+    fill(reader, read)?;
+    Ok(read)
 }
 
-fn fork<R: Read, W: Write>(input: &mut R, out: &mut W) -> ForkField {
-    let ByteField::Is(n) = byte(input, out) else {
-        return ForkField::Stop;
-    };
-    match n {
-        0 => ForkField::Is(Fork::Data),
-        1 => ForkField::Is(Fork::Resource),
-        _ => {
-            bad_record(out);
-            ForkField::Stop
-        }
+fn fork<R: Read>(reader: &mut R) -> Result<Fork, Stop> {
+    match byte(reader)? {
+        0 => Ok(Fork::Data),
+        1 => Ok(Fork::Resource),
+        _ => Err(Stop::BadRecord),
     }
 }
 
-// The name goes to the start of the space.
-pub fn place_in_fork<R: Read, W: Write>(
-    input: &mut R,
-    out: &mut W,
-    space: &mut [u8],
-) -> PlaceField {
-    let Field::Is(length) = name(input, out, space) else {
-        return PlaceField::Stop;
-    };
-    let ForkField::Is(which) = fork(input, out) else {
-        return PlaceField::Stop;
-    };
-    let Field::Is(place) = number64(input, out) else {
-        return PlaceField::Stop;
-    };
-    PlaceField::Is(length, which, place)
+// A name, a fork of its file, and a place or an offset in that fork. The name is at the start of the space.
+pub fn place_in_fork<'a, R: Read>(
+    reader: &mut R,
+    space: &'a mut [u8],
+) -> Result<(&'a [u8], Fork, u64), Stop> {
+    let name = name(reader, space)?;
+    let fork = fork(reader)?;
+    let place = number64(reader)?;
+    Ok((name, fork, place))
 }
