@@ -34,10 +34,11 @@ impl fmt::Display for Volume<'_> {
     fn fmt<W: fmt::Write>(&self, f: &mut fmt::Formatter<W>) -> fmt::Result {
         let facts = self.0;
         let name = Shown(text::first(&facts.name, facts.name_length as usize));
-        let files = facts.files;
-        let free = facts.free_blocks;
-        let blocks = facts.allocation_blocks;
-        write!(f, "volume {name} files {files} free {free} of {blocks}")
+        write!(
+            f,
+            "volume {name} files {} free {} of {}",
+            facts.files, facts.free_blocks, facts.allocation_blocks,
+        )
     }
 }
 

@@ -1,4 +1,6 @@
 // The records of the calls that change nothing: each reads its fields, makes the call and prints its line.
+//
+// What a record needs are four parameters: no proof closes over a struct that holds the reader, the writer and the image by `&mut`.
 use crate::MOST;
 use crate::disk::Disk;
 use replay_records::input::{MOST_NAME, Stop};

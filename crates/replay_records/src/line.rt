@@ -31,7 +31,7 @@ impl fmt::Display for Hex<'_> {
     }
 }
 
-// FACTS.
+// FACTS of docs/REPLAY.md.
 #[derive(Clone, Copy)]
 pub struct Facts<'a>(pub &'a VolumeFacts);
 
@@ -68,7 +68,7 @@ impl fmt::Display for Extent {
     }
 }
 
-// ENTRY.
+// ENTRY of docs/REPLAY.md.
 #[derive(Clone, Copy)]
 pub struct Entry<'a>(pub &'a DirectoryEntry);
 
