@@ -8,6 +8,7 @@ mod calls;
 mod changes;
 mod disk;
 
+use calls::Record;
 use disk::{Bare, Disk, Wrapped};
 use replay_records::input;
 use replay_records::input::Stop;
@@ -62,36 +63,29 @@ fn first(space: &mut [u8; MOST], n: usize) -> &mut [u8]
     &mut space[..n]
 }
 
-// Carries out a call and prints its line.
-fn call<R: Read, W: Write>(
-    reader: &mut R,
-    out: &mut W,
-    tag: u8,
-    disk: &impl Disk,
-    image: &mut [u8],
-) -> Result<(), Stop> {
-    match tag {
-        b'C' => {
-            calls::check(out, disk, image);
-            Ok(())
+impl<R: Read, W: Write> Record<'_, R, W> {
+    // Carries out the call of a tag and prints its line.
+    fn call(&mut self, tag: u8, disk: &impl Disk) -> Result<(), Stop> {
+        match tag {
+            b'C' => self.check(disk),
+            b'E' => self.entry(disk),
+            b'F' => self.find(disk),
+            b'B' => self.block(disk),
+            b'R' => self.read(disk),
+            b'N' => self.create(disk),
+            b'W' => self.write(disk),
+            b'U' => self.cut(disk),
+            b'D' => self.delete(disk),
+            b'K' => self.wrap(),
+            b'M' => self.rename(),
+            b'Q' => self.quick_find(),
+            _ => Err(Stop::BadRecord),
         }
-        b'E' => calls::entry(reader, out, disk, image),
-        b'F' => calls::find(reader, out, disk, image),
-        b'B' => calls::block(reader, out, disk, image),
-        b'R' => calls::read(reader, out, disk, image),
-        b'N' => changes::create(reader, out, disk, image),
-        b'W' => changes::write(reader, out, disk, image),
-        b'U' => changes::cut(reader, out, disk, image),
-        b'D' => changes::delete(reader, out, disk, image),
-        b'K' => calls::wrap(reader, out, image),
-        b'M' => changes::rename(reader, out, image),
-        b'Q' => calls::quick_find(reader, out, image),
-        _ => Err(Stop::BadRecord),
     }
 }
 
 // Carries out a record.
-fn record<R: Read, W: Write>(
+fn carry_out<R: Read, W: Write>(
     reader: &mut R,
     out: &mut W,
     tag: u8,
@@ -100,10 +94,18 @@ fn record<R: Read, W: Write>(
     match tag {
         b'I' => image.load(reader, Form::Bare),
         b'X' => image.load(reader, Form::Wrapped),
-        _ => match image.form {
-            Form::Bare => call(reader, out, tag, &Bare, image.bytes()),
-            Form::Wrapped => call(reader, out, tag, &Wrapped, image.bytes()),
-        },
+        _ => {
+            let form = image.form;
+            let mut record = Record {
+                reader,
+                out,
+                image: image.bytes(),
+            };
+            match form {
+                Form::Bare => record.call(tag, &Bare),
+                Form::Wrapped => record.call(tag, &Wrapped),
+            }
+        }
     }
 }
 
@@ -113,7 +115,7 @@ fn run<R: Read, W: Write>(reader: &mut R, out: &mut W, image: &mut Image) -> Res
         let Some(tag) = input::next_tag(reader)? else {
             return Ok(());
         };
-        record(reader, out, tag, image)?;
+        carry_out(reader, out, tag, image)?;
     }
     Ok(())
 }

@@ -1,18 +1,12 @@
-// The line of a call, and what stands in it: words parted by one space.
+// What stands in the line of a call: words parted by one space.
 use model::{DirectoryEntry, ForkFacts, VolumeFacts};
 use std::fmt;
-use std::io::Write;
 
 // From 0, for each byte s becomes (31 s + byte) mod 4294967296.
 pub fn sum(bytes: &[u8]) -> u32 {
     bytes.iter().fold(0u32, |s, b| {
         s.wrapping_mul(31).wrapping_add(u32::from(*b))
     })
-}
-
-// Prints the line of a call: the words, and the SUM of the image.
-pub fn print<W: Write, D: fmt::Display + Drop>(out: &mut W, image: &[u8], words: D) {
-    text::print(out, format_args!("{words} {}", sum(image)));
 }
 
 // Bytes in hex, or `-` where there are none.
