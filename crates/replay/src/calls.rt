@@ -1,4 +1,4 @@
-// The records of the calls that change nothing: each reads its fields, makes the call and prints its line.
+// The record of a call, and those of the calls that change nothing: each reads its fields, makes the call and prints its line.
 use crate::MOST;
 use crate::disk::Disk;
 use replay_records::input::{MOST_NAME, Stop};
@@ -22,13 +22,32 @@ pub struct Record<'a, R, W> {
 }
 
 impl<R: Read, W: Write> Record<'_, R, W> {
+    // Carries out the call of a tag and prints its line.
+    pub fn call(&mut self, tag: u8, disk: &impl Disk) -> Result<(), Stop> {
+        match tag {
+            b'C' => self.check(disk),
+            b'E' => self.entry(disk),
+            b'F' => self.find(disk),
+            b'B' => self.block(disk),
+            b'R' => self.read(disk),
+            b'N' => self.create(disk),
+            b'W' => self.write(disk),
+            b'U' => self.cut(disk),
+            b'D' => self.delete(disk),
+            b'K' => self.wrap(),
+            b'M' => self.rename(),
+            b'Q' => self.quick_find(),
+            _ => Err(Stop::BadRecord),
+        }
+    }
+
     // Prints the call's line: the words, and the SUM of the image.
     pub fn print<T: Display + Drop>(&mut self, words: T) {
         let sum = line::sum(self.image);
         text::print(self.out, format_args!("{words} {sum}"));
     }
 
-    pub fn check(&mut self, disk: &impl Disk) -> Result<(), Stop> {
+    fn check(&mut self, disk: &impl Disk) -> Result<(), Stop> {
         let answer = disk.check(self.image);
         match answer.number {
             0 => self.print(format_args!("C 0 {}", Facts(&answer.facts))),
@@ -37,7 +56,7 @@ impl<R: Read, W: Write> Record<'_, R, W> {
         Ok(())
     }
 
-    pub fn entry(&mut self, disk: &impl Disk) -> Result<(), Stop> {
+    fn entry(&mut self, disk: &impl Disk) -> Result<(), Stop> {
         let place = input::number64(self.reader)?;
         let answer = disk.entry(self.image, place);
         match answer.number {
@@ -47,7 +66,7 @@ impl<R: Read, W: Write> Record<'_, R, W> {
         Ok(())
     }
 
-    pub fn find(&mut self, disk: &impl Disk) -> Result<(), Stop> {
+    fn find(&mut self, disk: &impl Disk) -> Result<(), Stop> {
         let mut space = text::filled::<MOST_NAME>(0);
         let name = input::name(self.reader, &mut space)?;
         let answer = disk.find(self.image, name);
@@ -60,7 +79,7 @@ impl<R: Read, W: Write> Record<'_, R, W> {
     }
 
     // A wrapped file, too, is taken for a bare image. The blocks looked at are printed beside 13 too.
-    pub fn quick_find(&mut self) -> Result<(), Stop> {
+    fn quick_find(&mut self) -> Result<(), Stop> {
         let mut space = text::filled::<MOST_NAME>(0);
         let name = input::name(self.reader, &mut space)?;
         let answer = volume::quick_find(self.image, name);
@@ -74,7 +93,7 @@ impl<R: Read, W: Write> Record<'_, R, W> {
         Ok(())
     }
 
-    pub fn block(&mut self, disk: &impl Disk) -> Result<(), Stop> {
+    fn block(&mut self, disk: &impl Disk) -> Result<(), Stop> {
         let mut space = text::filled::<MOST_NAME>(0);
         let (name, fork, place) = input::place_in_fork(self.reader, &mut space)?;
         let answer = disk.block(self.image, name, fork, place);
@@ -85,7 +104,7 @@ impl<R: Read, W: Write> Record<'_, R, W> {
         Ok(())
     }
 
-    pub fn read(&mut self, disk: &impl Disk) -> Result<(), Stop> {
+    fn read(&mut self, disk: &impl Disk) -> Result<(), Stop> {
         let mut space = text::filled::<MOST_NAME>(0);
         let (name, fork, offset) = input::place_in_fork(self.reader, &mut space)?;
         let mut room = text::filled::<MOST_READ>(UNTOUCHED);
@@ -97,7 +116,7 @@ impl<R: Read, W: Write> Record<'_, R, W> {
     }
 
     // A wrapped file, too, is taken for a bare image.
-    pub fn wrap(&mut self) -> Result<(), Stop> {
+    fn wrap(&mut self) -> Result<(), Stop> {
         let mut space = text::filled::<MOST_NAME>(0);
         let name = input::name(self.reader, &mut space)?;
         let format = input::byte(self.reader)?;

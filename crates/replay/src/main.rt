@@ -9,7 +9,7 @@ mod changes;
 mod disk;
 
 use calls::Record;
-use disk::{Bare, Disk, Wrapped};
+use disk::{Bare, Wrapped};
 use replay_records::input;
 use replay_records::input::Stop;
 use std::io::{Read, Write};
@@ -63,27 +63,6 @@ fn first(space: &mut [u8; MOST], n: usize) -> &mut [u8]
     &mut space[..n]
 }
 
-impl<R: Read, W: Write> Record<'_, R, W> {
-    // Carries out the call of a tag and prints its line.
-    fn call(&mut self, tag: u8, disk: &impl Disk) -> Result<(), Stop> {
-        match tag {
-            b'C' => self.check(disk),
-            b'E' => self.entry(disk),
-            b'F' => self.find(disk),
-            b'B' => self.block(disk),
-            b'R' => self.read(disk),
-            b'N' => self.create(disk),
-            b'W' => self.write(disk),
-            b'U' => self.cut(disk),
-            b'D' => self.delete(disk),
-            b'K' => self.wrap(),
-            b'M' => self.rename(),
-            b'Q' => self.quick_find(),
-            _ => Err(Stop::BadRecord),
-        }
-    }
-}
-
 // Carries out a record.
 fn carry_out<R: Read, W: Write>(
     reader: &mut R,
@@ -122,14 +101,10 @@ fn run<R: Read, W: Write>(reader: &mut R, out: &mut W, image: &mut Image) -> Res
 
 fn main(rt: HostRuntime) {
     let mut out = rt.stdout();
-    match run(&mut rt.stdin(), &mut out, &mut Image::empty()) {
-        Ok(()) => {}
-        Err(Stop::Unreadable) => {
-            text::print(
-                &mut rt.stderr(),
-                format_args!("replay: {}", Stop::Unreadable),
-            )
+    if let Err(stop) = run(&mut rt.stdin(), &mut out, &mut Image::empty()) {
+        match stop {
+            Stop::BadRecord | Stop::TooLong => text::print(&mut out, stop),
+            Stop::Unreadable => text::print(&mut rt.stderr(), format_args!("replay: {stop}")),
         }
-        Err(stop) => text::print(&mut out, stop),
     }
 }
