@@ -59,15 +59,16 @@ impl fmt::Display for File<'_> {
 }
 
 fn list<W: Write>(out: &mut W, image: &[u8]) {
-    let checked = volume::check(image);
-    if checked.number != 0 {
-        text::print(out, format_args!("refused {}", checked.number));
-        return;
-    }
-    text::print(out, Volume(&checked.facts));
-    for place in 0..checked.facts.files as u64 {
-        let found = call_read::serve_entry(image, checked.facts, place);
-        text::print(out, File(&found.entry));
+    match volume::check(image) {
+        Ok(facts) => {
+            text::print(out, Volume(&facts));
+            for place in 0..facts.files as u64 {
+                if let Ok(entry) = call_read::serve_entry(image, facts, place) {
+                    text::print(out, File(&entry));
+                }
+            }
+        }
+        Err(refusal) => text::print(out, format_args!("refused {}", refusal.number())),
     }
 }
 

@@ -1,6 +1,8 @@
 // The record of a call, and those of the calls that change nothing: each reads its fields, makes the call and prints its line.
 use crate::MOST;
 use crate::disk::Disk;
+use files::{FoundFile, QuickFound, QuickRefusal};
+use model::{Refusal, done_number};
 use replay_records::input::{MOST_NAME, Stop};
 use replay_records::line::{Entry, Facts};
 use replay_records::{input, line};
@@ -48,20 +50,18 @@ impl<R: Read, W: Write> Record<'_, R, W> {
     }
 
     fn check(&mut self, disk: &impl Disk) -> Result<(), Stop> {
-        let answer = disk.check(self.image);
-        match answer.number {
-            0 => self.print(format_args!("C 0 {}", Facts(&answer.facts))),
-            number => self.print(format_args!("C {number}")),
+        match disk.check(self.image) {
+            Ok(facts) => self.print(format_args!("C 0 {}", Facts(&facts))),
+            Err(refusal) => self.print(format_args!("C {}", refusal.number())),
         }
         Ok(())
     }
 
     fn entry(&mut self, disk: &impl Disk) -> Result<(), Stop> {
         let place = input::number64(self.reader)?;
-        let answer = disk.entry(self.image, place);
-        match answer.number {
-            0 => self.print(format_args!("E 0 {}", Entry(&answer.entry))),
-            number => self.print(format_args!("E {number}")),
+        match disk.entry(self.image, place) {
+            Ok(entry) => self.print(format_args!("E 0 {}", Entry(&entry))),
+            Err(refusal) => self.print(format_args!("E {}", refusal.number())),
         }
         Ok(())
     }
@@ -69,11 +69,11 @@ impl<R: Read, W: Write> Record<'_, R, W> {
     fn find(&mut self, disk: &impl Disk) -> Result<(), Stop> {
         let mut space = text::filled::<MOST_NAME>(0);
         let name = input::name(self.reader, &mut space)?;
-        let answer = disk.find(self.image, name);
-        let entry = Entry(&answer.entry);
-        match answer.number {
-            0 => self.print(format_args!("F 0 {} {entry}", answer.place)),
-            number => self.print(format_args!("F {number}")),
+        match disk.find(self.image, name) {
+            Ok(FoundFile { place, entry }) => {
+                self.print(format_args!("F 0 {place} {}", Entry(&entry)));
+            }
+            Err(refusal) => self.print(format_args!("F {}", refusal.number())),
         }
         Ok(())
     }
@@ -82,13 +82,16 @@ impl<R: Read, W: Write> Record<'_, R, W> {
     fn quick_find(&mut self) -> Result<(), Stop> {
         let mut space = text::filled::<MOST_NAME>(0);
         let name = input::name(self.reader, &mut space)?;
-        let answer = volume::quick_find(self.image, name);
-        let entry = Entry(&answer.entry);
-        let looked = answer.looked;
-        match answer.number {
-            0 => self.print(format_args!("Q 0 {} {entry} {looked}", answer.place)),
-            13 => self.print(format_args!("Q 13 {looked}")),
-            number => self.print(format_args!("Q {number}")),
+        match volume::quick_find(self.image, name) {
+            Ok(QuickFound {
+                place,
+                entry,
+                looked,
+            }) => self.print(format_args!("Q 0 {place} {} {looked}", Entry(&entry))),
+            Err(QuickRefusal { refusal, looked }) => match refusal {
+                Refusal::NotFound => self.print(format_args!("Q 13 {looked}")),
+                other => self.print(format_args!("Q {}", other.number())),
+            },
         }
         Ok(())
     }
@@ -96,10 +99,9 @@ impl<R: Read, W: Write> Record<'_, R, W> {
     fn block(&mut self, disk: &impl Disk) -> Result<(), Stop> {
         let mut space = text::filled::<MOST_NAME>(0);
         let (name, fork, place) = input::place_in_fork(self.reader, &mut space)?;
-        let answer = disk.block(self.image, name, fork, place);
-        match answer.number {
-            0 => self.print(format_args!("B 0 {}", answer.block.0)),
-            number => self.print(format_args!("B {number}")),
+        match disk.block(self.image, name, fork, place) {
+            Ok(block) => self.print(format_args!("B 0 {}", block.0)),
+            Err(refusal) => self.print(format_args!("B {}", refusal.number())),
         }
         Ok(())
     }
@@ -109,9 +111,12 @@ impl<R: Read, W: Write> Record<'_, R, W> {
         let (name, fork, offset) = input::place_in_fork(self.reader, &mut space)?;
         let mut room = text::filled::<MOST_READ>(UNTOUCHED);
         let buffer = input::room(self.reader, &mut room)?;
-        let answer = disk.read(self.image, name, fork, offset, buffer);
+        let count = disk.read(self.image, name, fork, offset, buffer);
         let sum = line::sum(buffer);
-        self.print(format_args!("R {} {} {sum}", answer.number, answer.count));
+        match count {
+            Ok(count) => self.print(format_args!("R 0 {count} {sum}")),
+            Err(refusal) => self.print(format_args!("R {} 0 {sum}", refusal.number())),
+        }
         Ok(())
     }
 
@@ -122,7 +127,7 @@ impl<R: Read, W: Write> Record<'_, R, W> {
         let format = input::byte(self.reader)?;
         let mut room = text::filled::<MOST>(UNTOUCHED);
         let buffer = input::room(self.reader, &mut room)?;
-        let number = volume::wrap(self.image, name, format, buffer);
+        let number = done_number(volume::wrap(self.image, name, format, buffer));
         let sum = line::sum(buffer);
         self.print(format_args!("K {number} {sum}"));
         Ok(())

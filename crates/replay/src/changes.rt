@@ -1,6 +1,7 @@
 // The records of the calls that change the image: each reads its fields, makes the call and prints its line.
 use crate::calls::Record;
 use crate::disk::Disk;
+use model::done_number;
 use replay_records::input;
 use replay_records::input::{MOST_NAME, Stop};
 use std::io::{Read, Write};
@@ -15,7 +16,7 @@ impl<R: Read, W: Write> Record<'_, R, W> {
         let finder = input::array(self.reader)?;
         let created = input::number32(self.reader)?;
         let changed = input::number32(self.reader)?;
-        let number = disk.create(self.image, name, &finder, created, changed);
+        let number = done_number(disk.create(self.image, name, &finder, created, changed));
         self.print(format_args!("N {number}"));
         Ok(())
     }
@@ -26,7 +27,7 @@ impl<R: Read, W: Write> Record<'_, R, W> {
         let mut room = text::filled::<MOST_WRITTEN>(0);
         let bytes = input::bytes(self.reader, &mut room)?;
         let changed = input::number32(self.reader)?;
-        let number = disk.write(self.image, name, fork, offset, bytes, changed);
+        let number = done_number(disk.write(self.image, name, fork, offset, bytes, changed));
         self.print(format_args!("W {number}"));
         Ok(())
     }
@@ -35,7 +36,7 @@ impl<R: Read, W: Write> Record<'_, R, W> {
         let mut space = text::filled::<MOST_NAME>(0);
         let (name, fork, size) = input::place_in_fork(self.reader, &mut space)?;
         let changed = input::number32(self.reader)?;
-        let number = disk.cut(self.image, name, fork, size, changed);
+        let number = done_number(disk.cut(self.image, name, fork, size, changed));
         self.print(format_args!("U {number}"));
         Ok(())
     }
@@ -43,7 +44,7 @@ impl<R: Read, W: Write> Record<'_, R, W> {
     pub fn delete(&mut self, disk: &impl Disk) -> Result<(), Stop> {
         let mut space = text::filled::<MOST_NAME>(0);
         let name = input::name(self.reader, &mut space)?;
-        let number = disk.delete(self.image, name);
+        let number = done_number(disk.delete(self.image, name));
         self.print(format_args!("D {number}"));
         Ok(())
     }
@@ -55,7 +56,7 @@ impl<R: Read, W: Write> Record<'_, R, W> {
         let mut new_space = text::filled::<MOST_NAME>(0);
         let new = input::name(self.reader, &mut new_space)?;
         let changed = input::number32(self.reader)?;
-        let number = volume::rename(self.image, old, new, changed);
+        let number = done_number(volume::rename(self.image, old, new, changed));
         self.print(format_args!("M {number}"));
         Ok(())
     }

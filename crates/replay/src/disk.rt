@@ -1,16 +1,16 @@
 // The nine calls that are made on a bare image and on a wrapped file.
-use files::{BlockAnswer, CheckAnswer, EntryAnswer, FindAnswer, ReadAnswer};
-use model::Fork;
+use files::FoundFile;
+use model::{AllocationBlock, DirectoryEntry, Fork, Refusal, VolumeFacts};
 
 // What the bytes of an image are taken for.
 pub trait Disk {
-    fn check(&self, image: &[u8]) -> CheckAnswer;
+    fn check(&self, image: &[u8]) -> Result<VolumeFacts, Refusal>;
 
-    fn entry(&self, image: &[u8], place: u64) -> EntryAnswer;
+    fn entry(&self, image: &[u8], place: u64) -> Result<DirectoryEntry, Refusal>;
 
-    fn find(&self, image: &[u8], name: &[u8]) -> FindAnswer;
+    fn find(&self, image: &[u8], name: &[u8]) -> Result<FoundFile, Refusal>;
 
-    fn block(&self, image: &[u8], name: &[u8], fork: Fork, place: u64) -> BlockAnswer;
+    fn block(&self, image: &[u8], name: &[u8], fork: Fork, place: u64) -> Result<AllocationBlock, Refusal>;
 
     fn read(
         &self,
@@ -19,7 +19,7 @@ pub trait Disk {
         fork: Fork,
         offset: u64,
         buffer: &mut [u8],
-    ) -> ReadAnswer;
+    ) -> Result<usize, Refusal>;
 
     fn create(
         &self,
@@ -28,7 +28,7 @@ pub trait Disk {
         finder: &[u8; 16],
         created: u32,
         changed: u32,
-    ) -> u8;
+    ) -> Result<(), Refusal>;
 
     fn write(
         &self,
@@ -38,30 +38,30 @@ pub trait Disk {
         offset: u64,
         bytes: &[u8],
         changed: u32,
-    ) -> u8;
+    ) -> Result<(), Refusal>;
 
-    fn cut(&self, image: &mut [u8], name: &[u8], fork: Fork, size: u64, changed: u32) -> u8;
+    fn cut(&self, image: &mut [u8], name: &[u8], fork: Fork, size: u64, changed: u32) -> Result<(), Refusal>;
 
-    fn delete(&self, image: &mut [u8], name: &[u8]) -> u8;
+    fn delete(&self, image: &mut [u8], name: &[u8]) -> Result<(), Refusal>;
 }
 
 // A volume as it stands.
 pub struct Bare;
 
 impl Disk for Bare {
-    fn check(&self, image: &[u8]) -> CheckAnswer {
+    fn check(&self, image: &[u8]) -> Result<VolumeFacts, Refusal> {
         volume::check(image)
     }
 
-    fn entry(&self, image: &[u8], place: u64) -> EntryAnswer {
+    fn entry(&self, image: &[u8], place: u64) -> Result<DirectoryEntry, Refusal> {
         volume::entry(image, place)
     }
 
-    fn find(&self, image: &[u8], name: &[u8]) -> FindAnswer {
+    fn find(&self, image: &[u8], name: &[u8]) -> Result<FoundFile, Refusal> {
         volume::find(image, name)
     }
 
-    fn block(&self, image: &[u8], name: &[u8], fork: Fork, place: u64) -> BlockAnswer {
+    fn block(&self, image: &[u8], name: &[u8], fork: Fork, place: u64) -> Result<AllocationBlock, Refusal> {
         volume::block(image, name, fork, place)
     }
 
@@ -72,7 +72,7 @@ impl Disk for Bare {
         fork: Fork,
         offset: u64,
         buffer: &mut [u8],
-    ) -> ReadAnswer {
+    ) -> Result<usize, Refusal> {
         volume::read(image, name, fork, offset, buffer)
     }
 
@@ -83,7 +83,7 @@ impl Disk for Bare {
         finder: &[u8; 16],
         created: u32,
         changed: u32,
-    ) -> u8 {
+    ) -> Result<(), Refusal> {
         volume::create(image, name, finder, created, changed)
     }
 
@@ -95,15 +95,15 @@ impl Disk for Bare {
         offset: u64,
         bytes: &[u8],
         changed: u32,
-    ) -> u8 {
+    ) -> Result<(), Refusal> {
         volume::write(image, name, fork, offset, bytes, changed)
     }
 
-    fn cut(&self, image: &mut [u8], name: &[u8], fork: Fork, size: u64, changed: u32) -> u8 {
+    fn cut(&self, image: &mut [u8], name: &[u8], fork: Fork, size: u64, changed: u32) -> Result<(), Refusal> {
         volume::cut(image, name, fork, size, changed)
     }
 
-    fn delete(&self, image: &mut [u8], name: &[u8]) -> u8 {
+    fn delete(&self, image: &mut [u8], name: &[u8]) -> Result<(), Refusal> {
         volume::delete(image, name)
     }
 }
@@ -112,19 +112,19 @@ impl Disk for Bare {
 pub struct Wrapped;
 
 impl Disk for Wrapped {
-    fn check(&self, image: &[u8]) -> CheckAnswer {
+    fn check(&self, image: &[u8]) -> Result<VolumeFacts, Refusal> {
         wrapped::check(image)
     }
 
-    fn entry(&self, image: &[u8], place: u64) -> EntryAnswer {
+    fn entry(&self, image: &[u8], place: u64) -> Result<DirectoryEntry, Refusal> {
         wrapped::entry(image, place)
     }
 
-    fn find(&self, image: &[u8], name: &[u8]) -> FindAnswer {
+    fn find(&self, image: &[u8], name: &[u8]) -> Result<FoundFile, Refusal> {
         wrapped::find(image, name)
     }
 
-    fn block(&self, image: &[u8], name: &[u8], fork: Fork, place: u64) -> BlockAnswer {
+    fn block(&self, image: &[u8], name: &[u8], fork: Fork, place: u64) -> Result<AllocationBlock, Refusal> {
         wrapped::block(image, name, fork, place)
     }
 
@@ -135,7 +135,7 @@ impl Disk for Wrapped {
         fork: Fork,
         offset: u64,
         buffer: &mut [u8],
-    ) -> ReadAnswer {
+    ) -> Result<usize, Refusal> {
         wrapped::read(image, name, fork, offset, buffer)
     }
 
@@ -146,7 +146,7 @@ impl Disk for Wrapped {
         finder: &[u8; 16],
         created: u32,
         changed: u32,
-    ) -> u8 {
+    ) -> Result<(), Refusal> {
         wrapped::create(image, name, finder, created, changed)
     }
 
@@ -158,15 +158,15 @@ impl Disk for Wrapped {
         offset: u64,
         bytes: &[u8],
         changed: u32,
-    ) -> u8 {
+    ) -> Result<(), Refusal> {
         wrapped::write(image, name, fork, offset, bytes, changed)
     }
 
-    fn cut(&self, image: &mut [u8], name: &[u8], fork: Fork, size: u64, changed: u32) -> u8 {
+    fn cut(&self, image: &mut [u8], name: &[u8], fork: Fork, size: u64, changed: u32) -> Result<(), Refusal> {
         wrapped::cut(image, name, fork, size, changed)
     }
 
-    fn delete(&self, image: &mut [u8], name: &[u8]) -> u8 {
+    fn delete(&self, image: &mut [u8], name: &[u8]) -> Result<(), Refusal> {
         wrapped::delete(image, name)
     }
 }

@@ -2,4 +2,4 @@
 use Rattle.archive.proofs.mfs_block.Goals as goal
 
 pub returns : goal.returns
-returns c = rw c.fork_numbered.ensures at c.block.ensures
+returns c = rw c.from.ensures (rw c.fork_numbered.ensures at c.block.ensures)

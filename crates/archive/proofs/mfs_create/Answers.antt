@@ -2,4 +2,4 @@
 use Rattle.archive.proofs.mfs_create.Goals as goal
 
 pub returns : goal.returns
-returns c = c.create.ensures
+returns c = rw c.done_number.ensures c.create.ensures

@@ -2,4 +2,4 @@
 use Rattle.archive.proofs.mfs_write.Goals as goal
 
 pub returns : goal.returns
-returns c = rw c.fork_numbered.ensures at c.write.ensures
+returns c = rw c.done_number.ensures (rw c.fork_numbered.ensures at c.write.ensures)

@@ -2,4 +2,4 @@
 use Rattle.archive.proofs.wrapped_files.mfs_wrapped_create.Goals as goal
 
 pub returns : goal.returns
-returns c = c.create.ensures
+returns c = rw c.done_number.ensures c.create.ensures

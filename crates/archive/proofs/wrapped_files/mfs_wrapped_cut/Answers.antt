@@ -2,4 +2,4 @@
 use Rattle.archive.proofs.wrapped_files.mfs_wrapped_cut.Goals as goal
 
 pub returns : goal.returns
-returns c = rw c.fork_numbered.ensures at c.cut.ensures
+returns c = rw c.done_number.ensures (rw c.fork_numbered.ensures at c.cut.ensures)

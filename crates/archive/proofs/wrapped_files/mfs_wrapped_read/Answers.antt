@@ -2,4 +2,4 @@
 use Rattle.archive.proofs.wrapped_files.mfs_wrapped_read.Goals as goal
 
 pub returns : goal.returns
-returns c = rw c.fork_numbered.ensures at c.read.ensures
+returns c = rw (c.from.ensures _) (rw c.fork_numbered.ensures at c.read.ensures)
