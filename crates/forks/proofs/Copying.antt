@@ -1,12 +1,10 @@
 -- Laws of the copying of a fork's bytes, block by block, and that an accepted image's forks can be copied.
-use Prim.Native.Nat.{ℕ, zero, suc, ◌+◌, ◌-◌, ◌*◌, ◌/◌, ◌%◌, ◌≤◌, ◌<◌, min}
-use mathlib.Core.Path.{◌≡◌, refl, sym, ap, subst, ◌∙◌}
+use Prim.Native.Nat.{ℕ, zero, suc, ◌+◌, ◌-◌, ◌*◌, ◌/◌, ◌%◌, ◌≤◌, ◌<◌}
+use mathlib.Core.Path.{◌≡◌, sym, ap, subst, ◌∙◌}
 use mathlib.Core.Bool.{true}
 use mathlib.Core.List.{List, [], ◌∷◌, ◌++◌}
 use native.Mathlib.Omega.{arith}
 use native.Mathlib.Nat.{mul-le-mul_right, div-add-mod', div-lt_iff_lt-mul}
-use mir.Syntax.{w16}
-use mir.Val.{Fits}
 use lib.ListN.{length, get_or, take, drop, length-drop}
 use lib.Seq.{paste, take_at, take-add, drop-drop, take-append-le, drop-append-le, drop-append-add, length-take-le}
 use Rattle.model.specs.Bytes.{part}
@@ -78,6 +76,16 @@ pub record Onward (image : List ℕ) (s : LogicalBlock) (a : ℕ) (xs : List ℕ
   pub chain : runs (map_entry image) n (suc rest) b ≡ true
   pub reads : xs ≡ drop within (bytes_of s a image (b ∷ chain_blocks (map_entry image) rest (map_entry image b)))
 
+-- xs are the bytes of the chain behind block b, of `rest` blocks
+pub record Farther (image : List ℕ) (s : LogicalBlock) (a : ℕ) (xs : List ℕ) (b : ℕ) : Type 0 where
+  pub n : ℕ
+  pub small : n ≤ 640
+  pub room : 512 * s.0 + n * a ≤ length image
+  pub block : (2 ≤ b) × (b ≤ 641)
+  pub rest : ℕ
+  pub chain : runs (map_entry image) n rest (map_entry image b) ≡ true
+  pub reads : xs ≡ bytes_of s a image (chain_blocks (map_entry image) rest (map_entry image b))
+
 -- blocks 2 to N+1 lie in the image
 lies : (image : List ℕ) (s : LogicalBlock) (a n b : ℕ) → 512 * s.0 + n * a ≤ length image → 2 ≤ b → b ≤ n + 1 → byte_of s a b + a ≤ length image
 lies image s a n b room low high = omega (arith, mul-le-mul_right {m = suc (b - 2)} {n = n} a (omega arith))
@@ -127,61 +135,43 @@ module _ (image : List ℕ) (s : LogicalBlock) (a : ℕ) (xs : List ℕ) (b with
   onward_here j fits =
       sym (ap (take j) h.reads ∙ read_here image s a b (chain_blocks (map_entry image) h.rest (map_entry image b)) within j onward_lies fits)
 
-  -- and those from the next block on, if there are more
-  onward_next : (j : ℕ) → within + j ≡ a → j < length xs → Onward image s a (drop j xs) (map_entry image b) 0
+  -- those behind this block
+  pub onward_behind : (j : ℕ) → within + j ≡ a → Farther image s a (drop j xs) b
   unfolding bytes_of chain_blocks
-  onward_next j end more = go h.rest (runs_rest (map_entry image) h.n h.rest b h.chain) behind
-    where
-      behind : drop j xs ≡ bytes_of s a image (chain_blocks (map_entry image) h.rest (map_entry image b))
-      behind =
-          let all = bytes_of s a image (b ∷ chain_blocks (map_entry image) h.rest (map_entry image b)) in
-          let i : within + j ≡ a + 0 = omega arith in
-          ap (drop j) h.reads ∙ drop-drop j within all ∙ ap (λ i. drop i all) i
-          ∙ read_skip image s a b (chain_blocks (map_entry image) h.rest (map_entry image b)) 0 onward_lies
+  onward_behind j end =
+      let bs = chain_blocks (map_entry image) h.rest (map_entry image b) in
+      let all = bytes_of s a image (b ∷ bs) in
+      let i : within + j ≡ a + 0 = omega arith in
+      record {
+        n = h.n;
+        small = h.small;
+        room = h.room;
+        block = onward_block;
+        rest = h.rest;
+        chain = runs_rest (map_entry image) h.n h.rest b h.chain;
+        reads = ap (drop j) h.reads ∙ drop-drop j within all ∙ ap (λ i. drop i all) i ∙ read_skip image s a b bs 0 onward_lies;
+      }
 
-      go : (k : ℕ) → runs (map_entry image) h.n k (map_entry image b) ≡ true
-          → drop j xs ≡ bytes_of s a image (chain_blocks (map_entry image) k (map_entry image b)) → Onward image s a (drop j xs) (map_entry image b) 0
-      go zero r e = let none : length (drop j xs) ≡ 0 = ap length e in absurd (omega (arith, length-drop j xs))
-      go (suc k) r e = record { n = h.n; small = h.small; room = h.room; rest = k; chain = r; reads = e }
+-- they begin in the next block
+pub farther_onward : (image : List ℕ) (s : LogicalBlock) (a : ℕ) (xs : List ℕ) (b next : ℕ) → Farther image s a xs b → next ≡ map_entry image b → 1 ≤ length xs
+    → Onward image s a xs next 0
+unfolding bytes_of chain_blocks
+farther_onward image s a xs b next h q some = rw q (go h.rest h.chain h.reads)
+  where
+    go : (k : ℕ) → runs (map_entry image) h.n k (map_entry image b) ≡ true
+        → xs ≡ bytes_of s a image (chain_blocks (map_entry image) k (map_entry image b)) → Onward image s a xs (map_entry image b) 0
+    go zero r e = absurd (omega (arith, ap length e))
+    go (suc k) r e = record { n = h.n; small = h.small; room = h.room; rest = k; chain = r; reads = e }
 
--- ---- the loop over the blocks
+-- ---- the copy, block by block
 
--- Of count bytes from place `within₀` of block b₀ on, the first `done` are copied, and the next stands at place `within` of
--- block b.
-pub record Midway (image : List ℕ) (s : LogicalBlock) (a count b₀ within₀ : ℕ) (before : List ℕ) (b within done : ℕ) (buffer : List ℕ) : Type 0 where
-  pub more : done < count
-  pub here : within < a
-  pub size : length buffer ≡ length before
-  pub onward : (xs : List ℕ) → Onward image s a xs b₀ within₀ → count ≤ length xs → Onward image s a (drop done xs) b within
-  pub copied : (xs : List ℕ) → Onward image s a xs b₀ within₀ → count ≤ length xs → buffer ≡ take done xs ++ drop done before
-
-pub midway_first : (image : List ℕ) (s : LogicalBlock) (a count b within : ℕ) (before : List ℕ) → 1 ≤ count → within < a
-    → Midway image s a count b within before b within 0 before
-midway_first image s a count b within before some here =
-    record { more = some; here = here; size = refl; onward = λ xs o l. o; copied = λ xs o l. refl }
-
-module _ (image : List ℕ) (s : LogicalBlock) (a count b₀ within₀ : ℕ) (before : List ℕ) (b within done : ℕ) (buffer : List ℕ)
-    (m : Midway image s a count b₀ within₀ before b within done buffer) (fits : count ≤ length before) where
-  -- with the next j bytes of block b
-  pub midway_copied : (j : ℕ) → within + j ≤ a → done + j ≤ count → (xs : List ℕ) → Onward image s a xs b₀ within₀ → count ≤ length xs
-      → paste buffer done (drop (byte_of s a b + within) image) j ≡ take (done + j) xs ++ drop (done + j) before
-  midway_copied j inner due xs o l =
-      ap (λ x. paste x done (drop (byte_of s a b + within) image) j) (m.copied xs o l)
-      ∙ copy_on before xs (drop (byte_of s a b + within) image) done j (omega arith) (omega arith)
-      (onward_here image s a (drop done xs) b within (m.onward xs o l) j inner)
-
-  -- the block's end is reached, and more is due
-  pub midway_next : (j next : ℕ) (after : List ℕ) → within + j ≡ a → done + j < count → length after ≡ length buffer
-      → after ≡ paste buffer done (drop (byte_of s a b + within) image) j → next ≡ map_entry image b
-      → Midway image s a count b₀ within₀ before next 0 (done + j) after
-  midway_next j next after end due long e q = record {
-    more = due;
-    here = omega (arith, m.here);
-    size = long ∙ m.size;
-    onward = λ xs o l. rw q (subst (λ x. Onward image s a x (map_entry image b) 0) (drop-drop j done xs)
-        (onward_next image s a (drop done xs) b within (m.onward xs o l) j end (omega (arith, length-drop done xs))));
-    copied = λ xs o l. e ∙ midway_copied j (omega arith) (omega arith) xs o l;
-  }
+-- the first d of the bytes are copied; with j more from block b, read at q, so are the first k
+pub copied_more : (image : List ℕ) (s : LogicalBlock) (a : ℕ) (xs before buffer after : List ℕ) (d j k b within q : ℕ) → Onward image s a (drop d xs) b within
+    → within + j ≤ a → k ≡ d + j → d ≤ length xs → d ≤ length before → buffer ≡ take d xs ++ drop d before → q ≡ byte_of s a b + within
+    → after ≡ paste buffer d (drop q image) j → after ≡ take k xs ++ drop k before
+copied_more image s a xs before buffer after d j k b within q h inner z hx hl m e p =
+    p ∙ ap (λ x. paste x d (drop q image) j) m ∙ ap (λ i. paste (take d xs ++ drop d before) d (drop i image) j) e
+    ∙ copy_on before xs (drop (byte_of s a b + within) image) d j hx hl (onward_here image s a (drop d xs) b within h j inner) ∙ ap (λ i. take i xs ++ drop i before) (sym z)
 
 -- ---- a fork
 
@@ -267,39 +257,3 @@ copyable image acc i l fork =
       };
       good = fork_good (map_entry image) (N f) (A f) (fork_of fork (get_or (directory image) i [])) (sound_fork image acc i l fork);
     }
-
--- ---- the numbers of a turn, where bytes are copied and where they are stored
-
-pub positive : (n : ℕ) → 512 ≤ n → 0 < n
-positive n h = omega arith
-
-pub place_fits : (n : ℕ) → n < 640 → Fits w16 n
-place_fits n h = omega arith
-
-pub before_all : (i n l : ℕ) → 1 ≤ n → i + n ≤ l → i < l
-before_all i n l h k = omega arith
-
-pub long : (s n m : ℕ) → 2048 ≤ s → s + n ≤ m → 2048 ≤ m
-long s n m h k = omega arith
-
-pub multiple : (a : ℕ) → a / 512 * 512 ≡ a → a % 512 ≡ 0
-multiple a h = omega arith
-
--- r bytes in a turn, at place w of a bytes, where d of n are done: they end within the block, and at its end where more are due
-pub record Turn (r a w n d : ℕ) : Type 0 where
-  pub in_block : w + r ≤ a
-  pub in_count : d + r ≤ n
-  pub less : n - (d + r) < n - d
-  pub whole : d + r < n → w + r ≡ a
-
-pub a_turn : (r a w n d : ℕ) → r ≡ min (a - w) (n - d) → w < a → d < n → Turn r a w n d
-a_turn r a w n d is here more = record { in_block = omega arith; in_count = omega arith; less = omega arith; whole = λ h. omega arith }
-
-pub from_within : (f b w n a m : ℕ) → f ≡ b + w → b + a ≤ m → w + n ≤ a → f + n ≤ m
-from_within f b w n a m e h k = omega arith
-
-pub to_within : (d n m l : ℕ) → d ≤ n → l ≡ m → n ≤ m → d ≤ l
-to_within d n m l h e k = omega arith
-
-pub all_done : (d n : ℕ) → d ≤ n → n ≤ d → d ≡ n
-all_done d n h k = omega arith

@@ -3,10 +3,11 @@ use mathlib.Core.Path.{◌≡◌, refl, sym, ap, ap₂, subst, ◌∙◌}
 use mathlib.Core.Bool.{true}
 use mathlib.Core.List.{List, [], ◌∷◌, ◌++◌, append_assoc}
 use mathlib.Core.Logic.{◌⊎◌, inl, inr}
-use Prim.Native.Nat.{ℕ, zero, suc, ◌+◌, ◌-◌, ◌*◌, ◌/◌, ◌%◌, ◌≤◌, ◌<◌}
+use Prim.Native.Nat.{ℕ, zero, suc, ◌+◌, ◌-◌, ◌*◌, ◌/◌, ◌%◌, ◌≤◌, ◌<◌, min}
 use native.Mathlib.Omega.{arith}
+use native.Mathlib.Decide.{ℕ_discrete}
 use native.Mathlib.Nat.{add_assoc, mul-le-mul_right, div-add-mod', div-lt_iff_lt-mul}
-use lib.ListN.{length, get_or, take, drop, length-drop, take-append-drop}
+use lib.ListN.{length, get_or, take, drop, length-drop, length-append, take-append-drop}
 use lib.Seq.{paste, paste-zero, take_at, drop_at, drop-drop, take-add, take-take, take-append-le, drop-append-le, take-append-add, drop-append-add}
 use lib.Seq.{length-take-le, length-paste, take-length, drop-length}
 use Rattle.model.specs.Lists.{times}
@@ -19,8 +20,7 @@ use Rattle.laws.proofs.Joins.{other}
 use Rattle.model.proofs.Map.{runs_block, runs_rest, block_low, block_high, chain_low, chain_high, chain_once}
 use Rattle.laws.proofs.Content.{byte_of, Inside, bytes_same, part_clear, blocks_apart}
 use Rattle.laws.proofs.Alike.{entries_frame}
-use Rattle.blockmap.specs.Places.{HasPlace, IsPlace}
-use Rattle.blockmap.proofs.Chains.{chain_most}
+use Rattle.blockmap.specs.Places.{IsPlace}
 use Rattle.forks.specs.Content.{Fillable}
 
 -- ---- pastes
@@ -153,7 +153,20 @@ pub record Due (first : List ℕ) (s : LogicalBlock) (a : ℕ) (image : List ℕ
   pub map : part 1088 960 image ≡ part 1088 960 first
   pub leaves : put_content s a image (chain_blocks (map_entry first) (suc rest) b) within xs ≡ result
 
--- so it is at each place of a chain
+-- xs are due from the block behind b on, in an image with the map of `first`; stored there, they leave `result`
+pub record Behind (first : List ℕ) (s : LogicalBlock) (a : ℕ) (image : List ℕ) (b : ℕ) (xs result : List ℕ) : Type 0 where
+  pub n : ℕ
+  pub small : n ≤ 640
+  pub low : 2048 ≤ 512 * s.0
+  pub room : 512 * s.0 + n * a ≤ length image
+  pub block : (2 ≤ b) × (b ≤ 641)
+  pub rest : ℕ
+  pub chain : runs (map_entry first) n rest (map_entry first b) ≡ true
+  pub fits : length xs ≤ rest * a
+  pub map : part 1088 960 image ≡ part 1088 960 first
+  pub leaves : put_content s a image (chain_blocks (map_entry first) rest (map_entry first b)) 0 xs ≡ result
+
+-- bytes are due at each place of a chain
 pub due_at : (image : List ℕ) (s : LogicalBlock) (a n : ℕ) → n ≤ 640 → 2048 ≤ 512 * s.0 → 512 * s.0 + n * a ≤ length image
     → (k t place within : ℕ) (xs : List ℕ) → runs (map_entry image) n k t ≡ true → place < k → place * a + within + length xs ≤ k * a
     → Due image s a image (get_or (chain_blocks (map_entry image) k t) place 0) within xs
@@ -222,83 +235,80 @@ module _ (first : List ℕ) (s : LogicalBlock) (a : ℕ) (image : List ℕ) (b w
   long : (j : ℕ) → j ≤ length xs → within + j ≤ a → length (paste image (byte_of s a b + within) xs j) ≡ length image
   long j some inner = length-paste image (byte_of s a b + within) xs j (omega (arith, due_lies)) some
 
-  -- all bytes are stored
-  pub due_last : (j : ℕ) → j ≡ length xs → within + j ≤ a → paste image (byte_of s a b + within) xs j ≡ result
-  due_last j e inner =
-      let after = paste image (byte_of s a b + within) xs j in
-      let bs = chain_blocks (map_entry first) h.rest (map_entry first b) in
-      let room : 512 * s.0 + h.n * a ≤ length after = omega (arith, h.room, long j (omega arith) inner) in
-      let w = chain_inside (map_entry first) s a h.n h.rest (map_entry first b) after (runs_rest (map_entry first) h.n h.rest b h.chain) room in
-      let none : drop j xs ≡ [] = ap (λ i. drop i xs) e ∙ drop-length xs in
-      sym (content_none s a after bs 0 w) ∙ ap (put_content s a after bs 0) (sym none) ∙ due_here j (omega arith) inner (inr e)
-
-  -- the block's end is reached, and more is due
-  pub due_next : (j : ℕ) → within + j ≡ a → j < length xs
-      → Due first s a (paste image (byte_of s a b + within) xs j) (map_entry first b) 0 (drop j xs) result
-  due_next j end more =
-      go h.rest (runs_rest (map_entry first) h.n h.rest b h.chain) (omega (arith, length-drop j xs, h.fits))
-      (due_here j (omega arith) (omega arith) (inl end))
+  -- the bytes of this block are stored: all of them, or up to the block's end
+  pub due_behind : (j : ℕ) → j ≤ length xs → within + j ≤ a → (within + j ≡ a) ⊎ (j ≡ length xs)
+      → Behind first s a (paste image (byte_of s a b + within) xs j) b (drop j xs) result
+  due_behind j some inner c = record {
+    n = h.n;
+    small = h.small;
+    low = h.low;
+    room = omega (arith, h.room, long j some inner);
+    block = due_block;
+    rest = h.rest;
+    chain = runs_rest (map_entry first) h.n h.rest b h.chain;
+    fits = left c;
+    map = due_map j some inner;
+    leaves = due_here j some inner c;
+  }
     where
-      go : (k : ℕ) → runs (map_entry first) h.n k (map_entry first b) ≡ true → length (drop j xs) ≤ k * a
-          → put_content s a (paste image (byte_of s a b + within) xs j) (chain_blocks (map_entry first) k (map_entry first b)) 0 (drop j xs) ≡ result
-          → Due first s a (paste image (byte_of s a b + within) xs j) (map_entry first b) 0 (drop j xs) result
-      go zero r f e = absurd (omega (arith, length-drop j xs))
+      left : (within + j ≡ a) ⊎ (j ≡ length xs) → length (drop j xs) ≤ h.rest * a
+      left (inl e) = omega (arith, length-drop j xs, h.fits)
+      left (inr e) = omega (arith, length-drop j xs)
+
+  -- so it is for the first of them, and those behind these, as the image after the store has it
+  pub due_part : (q : ℕ) (head back after : List ℕ) → xs ≡ head ++ back → within + length head ≤ a → (within + length head ≡ a) ⊎ (length back ≡ 0)
+      → q ≡ byte_of s a b + within → after ≡ paste image q (drop 0 head) (length head) → Behind first s a after b back result
+  due_part q head back after e inner c p t =
+      let j = length head in
+      let at = byte_of s a b + within in
+      let total : length xs ≡ j + length back = ap length e ∙ length-append head back in
+      let some : j ≤ length xs = omega arith in
+      let rest : drop j xs ≡ back = ap (drop j) e ∙ drop_at head back j refl in
+      let front : take j (drop 0 head) ≡ take j xs = take-length head ∙ sym (ap (take j) e ∙ take_at head back j refl) in
+      let same : after ≡ paste image at xs j = t ∙ ap (λ i. paste image i (drop 0 head) j) p ∙ ap (λ u. take at image ++ u ++ drop (at + j) image) front in
+      subst (λ x. Behind first s a x b back result) (sym same)
+      (subst (λ x. Behind first s a (paste image at xs j) b x result) rest (due_behind j some inner (ends c total)))
+    where
+      ends : (within + length head ≡ a) ⊎ (length back ≡ 0) → length xs ≡ length head + length back → (within + length head ≡ a) ⊎ (length head ≡ length xs)
+      ends (inl e) t = inl e
+      ends (inr e) t = inr (omega arith)
+
+module _ (first : List ℕ) (s : LogicalBlock) (a : ℕ) (image : List ℕ) (b : ℕ) (xs result : List ℕ) (h : Behind first s a image b xs result) where
+  -- more is due, from the next block's first byte on
+  pub behind_due : (next : ℕ) → next ≡ map_entry image b → 1 ≤ length xs → Due first s a image next 0 xs result
+  behind_due next q some =
+      let at : next ≡ map_entry first b = q ∙ entries_frame image first b h.block.1 h.map in
+      rw at (go h.rest h.chain h.fits h.leaves)
+    where
+      go : (k : ℕ) → runs (map_entry first) h.n k (map_entry first b) ≡ true → length xs ≤ k * a
+          → put_content s a image (chain_blocks (map_entry first) k (map_entry first b)) 0 xs ≡ result
+          → Due first s a image (map_entry first b) 0 xs result
+      go zero r f e = absurd (omega arith)
       go (suc k) r f e = record {
         n = h.n;
         small = h.small;
         low = h.low;
-        room = omega (arith, h.room, long j (omega arith) (omega arith));
+        room = h.room;
         rest = k;
         chain = r;
         fits = omega arith;
-        map = due_map j (omega arith) (omega arith);
+        map = h.map;
         leaves = e;
       }
 
--- ---- the loop over the blocks
-
--- Of the bytes xs, due from place `within₀` of block b₀ on, the first `done` are stored, and the next belongs at place `within`
--- of block b.
-pub record Partway (first : List ℕ) (s : LogicalBlock) (a : ℕ) (xs : List ℕ) (b₀ within₀ b within done : ℕ) (image : List ℕ) : Type 0 where
-  pub more : done < length xs
-  pub here : within < a
-  pub size : length image ≡ length first
-  pub due : (result : List ℕ) → Due first s a first b₀ within₀ xs result → Due first s a image b within (drop done xs) result
-
-pub partway_first : (image : List ℕ) (s : LogicalBlock) (a : ℕ) (xs : List ℕ) (b within : ℕ) → 1 ≤ length xs → within < a
-    → Partway image s a xs b within b within 0 image
-partway_first image s a xs b within some here = record { more = some; here = here; size = refl; due = λ r d. d }
-
-module _ (first : List ℕ) (s : LogicalBlock) (a : ℕ) (xs : List ℕ) (b₀ within₀ b within done : ℕ) (image : List ℕ)
-    (m : Partway first s a xs b₀ within₀ b within done image) where
-  -- the last bytes
-  pub partway_last : (j : ℕ) → within + j ≤ a → done + j ≡ length xs → (result : List ℕ) → Due first s a first b₀ within₀ xs result
-      → paste image (byte_of s a b + within) (drop done xs) j ≡ result
-  partway_last j inner end result d =
-      due_last first s a image b within (drop done xs) result (m.due result d) j (omega (arith, length-drop done xs)) inner
-
-  -- the next block, as the image after the store has it
-  pub partway_next : (j next : ℕ) (after : List ℕ) → within + j ≡ a → done + j < length xs → length after ≡ length image
-      → after ≡ paste image (byte_of s a b + within) (drop done xs) j → next ≡ map_entry after b
-      → Partway first s a xs b₀ within₀ next 0 (done + j) after
-  partway_next j next after end more long e q = record {
-    more = more;
-    here = omega (arith, m.here);
-    size = long ∙ m.size;
-    due = λ r d. go r (m.due r d);
-  }
+  -- nothing is due
+  pub behind_none : length xs ≡ 0 → image ≡ result
+  behind_none z = go xs z h.leaves
     where
-      some : j < length (drop done xs)
-      some = omega (arith, length-drop done xs)
+      go : (xs : List ℕ) → length xs ≡ 0 → put_content s a image (chain_blocks (map_entry first) h.rest (map_entry first b)) 0 xs ≡ result → image ≡ result
+      go [] z e =
+          let w = chain_inside (map_entry first) s a h.n h.rest (map_entry first b) image h.chain h.room in
+          sym (content_none s a image (chain_blocks (map_entry first) h.rest (map_entry first b)) 0 w) ∙ e
+      go (x ∷ xs) z e = absurd (omega arith)
 
-      go : (r : List ℕ) → Due first s a image b within (drop done xs) r → Due first s a after next 0 (drop (done + j) xs) r
-      go r d =
-          let inner : within + j ≤ a = omega arith in
-          let low : j ≤ length (drop done xs) = omega (arith, some) in
-          let p = due_next first s a image b within (drop done xs) r d j end some in
-          let map : part 1088 960 after ≡ part 1088 960 first = ap (part 1088 960) e ∙ due_map first s a image b within (drop done xs) r d j low inner in
-          let at : next ≡ map_entry first b = q ∙ entries_frame after first b (due_block first s a image b within (drop done xs) r d).1 map in
-          subst (λ x. Due first s a after next 0 x r) (drop-drop j done xs) (rw (e, at) p)
+-- a part of h bytes, before b others, that ends with the block or with the bytes
+pub part_ends : (h b w a : ℕ) → w ≤ a → h ≡ min (h + b) (a - w) → (w + h ≡ a) ⊎ (b ≡ 0)
+part_ends h b w a low e = elim (ℕ_discrete b 0) [ yes z ↦ inr z | no n ↦ inl (omega arith) ]
 
 -- ---- the chain that is filled
 
@@ -326,12 +336,6 @@ module _ (image : List ℕ) (s : LogicalBlock) (a t k : ℕ) (h : Fillable image
 
     below : offset / a < k
     below = (div-lt_iff_lt-mul {k = a} {x = offset} {y = k} (omega (arith, h.area.block))).1 (omega arith)
-
-    pub fill_small : offset / a < 640
-    fill_small = omega (arith, below, chain_most (map_entry image) h.n k t fill_chain, h.area.small)
-
-    pub fill_place : HasPlace (map_entry image) t (offset / a)
-    fill_place = record { n = h.n; k = k; small = h.area.small; chain = fill_chain; within = below }
 
     pub fill_due : (b : ℕ) → IsPlace (map_entry image) t (offset / a) b
         → Due image s a image b (offset % a) xs (put_content s a image (chain_blocks (map_entry image) k t) offset xs)

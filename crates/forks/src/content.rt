@@ -16,7 +16,7 @@ fn byte_in(b: AllocationBlock, start: LogicalBlock, size: u32, within: usize) ->
     b.logical(start, size).byte() + within
 }
 
-// Copies count bytes of the fork from the offset on into the buffer.
+// Copies count bytes of the fork from the offset on into the buffer. Of what `chunks_mut` lends a proof would know nothing after.
 fn copy_blocks(
     image: &[u8],
     start: LogicalBlock,
@@ -30,19 +30,17 @@ fn copy_blocks(
     ensures { buffer.new ≡ part offset count (fork_bytes start size image.now g) ++ drop count buffer.old }
 {
     let a = size as usize;
+    let within = offset % a;
     let mut b = blockmap::block_at(image, g.start, (offset / a) as u16);
-    let mut within = offset % a;
-    let mut done = 0;
-    loop {
-        let n = (a - within).min(count - done);
-        let from = byte_in(b, start, size, within);
+    let from = byte_in(b, start, size, within);
+    let mut done = count.min(a - within);
+    copy_part(image, from, buffer, 0, done);
+    while done < count {
+        b = AllocationBlock(blockmap::load(image, b));
+        let from = byte_in(b, start, size, 0);
+        let n = a.min(count - done);
         copy_part(image, from, buffer, done, n);
         done += n;
-        if count <= done {
-            return;
-        }
-        within = 0;
-        b = AllocationBlock(blockmap::load(image, b));
     }
 }
 
@@ -80,23 +78,18 @@ pub fn fill_fork(
     requires { Fillable image.old start size first.0 blocks × (offset + length bytes.now ≤ blocks * size) }
     ensures { image.new ≡ put_content start size image.old (chain_blocks (map_entry image.old) blocks first.0) offset bytes.now }
 {
-    let count = bytes.len();
-    if count == 0 {
+    if bytes.is_empty() {
         return;
     }
     let a = size as usize;
+    let within = offset % a;
     let mut block = blockmap::block_at(image, first, (offset / a) as u16);
-    let mut at = offset % a;
-    let mut stored = 0;
-    loop {
-        let n = (a - at).min(count - stored);
-        let to = byte_in(block, start, size, at);
-        copy_part(bytes, stored, image, to, n);
-        stored += n;
-        if count <= stored {
-            return;
-        }
-        at = 0;
+    let (head, behind) = bytes.split_at(bytes.len().min(a - within));
+    let to = byte_in(block, start, size, within);
+    copy_part(head, 0, image, to, head.len());
+    for part in behind.chunks(a) {
         block = AllocationBlock(blockmap::load(image, block));
+        let to = byte_in(block, start, size, 0);
+        copy_part(part, 0, image, to, part.len());
     }
 }
