@@ -16,13 +16,7 @@ pub fn sort_value(value: u16, n: u16) -> MapValue
     match value {
         0 => MapValue::Free,
         1 => MapValue::Last,
-        2..=4094 => {
-            if value <= n + 1 {
-                MapValue::Next(AllocationBlock(value))
-            } else {
-                MapValue::Bad
-            }
-        }
+        2..=4094 if value <= n + 1 => MapValue::Next(AllocationBlock(value)),
         _ => MapValue::Bad,
     }
 }

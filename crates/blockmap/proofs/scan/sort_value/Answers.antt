@@ -27,11 +27,11 @@ pub returns-in-1 : goal.returns-in-1
 unfolding sort_of
 returns-in-1 c = rw c.in-1.is
 
-pub returns-then-value-n : goal.returns-then-value-n
-returns-then-value-n c = next_block _ _ (omega arith) (omega arith)
-
-pub returns-else-value-n : goal.returns-else-value-n
-returns-else-value-n c = too_large _ _ (omega arith) (omega arith)
+pub returns-in-2-to-4094 : goal.returns-in-2-to-4094
+returns-in-2-to-4094 c = next_block _ _ (omega arith) (omega arith)
 
 pub returns-in_default : goal.returns-in_default
 returns-in_default c = too_large _ _ (omega arith) (omega arith)
+
+pub returns-in_default-2 : goal.returns-in_default-2
+returns-in_default-2 c = too_large _ _ (omega arith) (omega arith)
