@@ -102,9 +102,10 @@ pub no_chain : (e : ℕ → ℕ) (k s : ℕ) (r : List ℕ) → k ≡ 0 → chai
 unfolding chain_blocks
 no_chain e k s r h = rw h
 
--- none of them is taken
-pub none_new : (bs fs : List ℕ) (need : ℕ) → need ≡ 0 → bs ++ take need fs ≡ bs
-none_new bs fs need z = rw z (append-nil bs)
+-- none of them is taken: what stands is what is left
+pub none_taken : (n : ℕ) (l : List ℕ) (k s need : ℕ) → Bytes l → (0 < k → runs (map_entry l) n k s ≡ true) → need ≡ 0
+    → l ≡ put_chain l (chain_blocks (map_entry l) k s ++ take need (blocks_free (map_entry l) n))
+none_taken n l k s need h c z = rw z (sym (ap (put_chain l) (append-nil (chain_blocks (map_entry l) k s)) ∙ standing n l k s h c))
 
 pub none_first : (e : ℕ → ℕ) (k s : ℕ) (fs : List ℕ) (need : ℕ) → k ≡ 0 → need ≡ 0 → first_or0 (chain_blocks e k s ++ take need fs) ≡ 0
 unfolding chain_blocks first_or0

@@ -2,51 +2,35 @@
 use Prim.Native.Nat.{suc, ◌-◌, ◌≤◌}
 use mathlib.Core.Path.{◌≡◌, sym, ap, subst, ◌∙◌}
 use mathlib.Core.Bool.{true}
-use mathlib.Core.List.{◌++◌}
 use native.Mathlib.Omega.{arith}
 use lib.ListN.{length, take}
 use Rattle.model.specs.Bytes.{Bytes}
 use Rattle.model.specs.Lists.{first_or0}
-use Rattle.model.specs.Map.{map_entry, runs, chain_blocks, blocks_free, put_chain}
+use Rattle.model.specs.Map.{map_entry, runs, blocks_free, put_chain}
 use Rattle.laws.proofs.Entries.{length_set_entry}
 use Rattle.blockmap.specs.Free.{free_from}
-use Rattle.blockmap.proofs.Chains.{at}
-use Rattle.blockmap.proofs.Linking.{standing, free_all}
-use Rattle.blockmap.proofs.Changes.{free_from_lem, first_new, first_old, no_chain, none_new, none_first, ext_requires, ext_leaves}
+use Rattle.blockmap.proofs.Linking.{free_all}
+use Rattle.blockmap.proofs.Changes.{free_from_lem, first_new, first_old, no_chain, none_taken, none_first, ext_requires, ext_leaves}
 use Rattle.blockmap.proofs.allocate.extend.Goals as goal
 
 pub returns-then-k-eq0 : goal.returns-then-k-eq0
 unfolding Bytes
 returns-then-k-eq0 c =
-    let bytes : Bytes c.args.image.now = λ i. omega (arith, c.type_inv.image i) in
-    let unchanged : let a = c.args in let l = a.image.now in
-    l ≡ put_chain l (chain_blocks (map_entry l) a.k a.s.0 ++ take a.need (blocks_free (map_entry l) a.n)) = let a = c.args in
-    let l = a.image.now in
-    let e = map_entry l in
-    sym (ap (put_chain l) (none_new (chain_blocks e a.k a.s.0) (blocks_free e a.n) a.need c.if-need-eq0.true)
-    ∙ standing a.n l a.k a.s.0 bytes c.requires.2) in
     let a = c.args in
-    let e = map_entry a.image.now in
+    let l = a.image.now in
     record {
-      after = unchanged;
-      start = sym (none_first e a.k a.s.0 (blocks_free e a.n) a.need c.if-k-eq0.true c.if-need-eq0.true);
+      after = none_taken a.n l a.k a.s.0 a.need (λ i. omega (arith, c.type_inv.image i)) c.requires.2 c.if-need-eq0.true;
+      start = sym (none_first (map_entry l) a.k a.s.0 (blocks_free (map_entry l) a.n) a.need c.if-k-eq0.true c.if-need-eq0.true);
     }
 
 pub returns-then-need-eq0 : goal.returns-then-need-eq0
 unfolding Bytes
 returns-then-need-eq0 c =
-    let bytes : Bytes c.args.image.now = λ i. omega (arith, c.type_inv.image i) in
-    let unchanged : let a = c.args in let l = a.image.now in
-    l ≡ put_chain l (chain_blocks (map_entry l) a.k a.s.0 ++ take a.need (blocks_free (map_entry l) a.n)) = let a = c.args in
-    let l = a.image.now in
-    let e = map_entry l in
-    sym (ap (put_chain l) (none_new (chain_blocks e a.k a.s.0) (blocks_free e a.n) a.need c.if-need-eq0.true)
-    ∙ standing a.n l a.k a.s.0 bytes c.requires.2) in
     let a = c.args in
-    let e = map_entry a.image.now in
+    let l = a.image.now in
     record {
-      after = unchanged;
-      start = sym (first_old e a.k a.s.0 (take a.need (blocks_free e a.n)) (omega arith));
+      after = none_taken a.n l a.k a.s.0 a.need (λ i. omega (arith, c.type_inv.image i)) c.requires.2 c.if-need-eq0.true;
+      start = sym (first_old (map_entry l) a.k a.s.0 (take a.need (blocks_free (map_entry l) a.n)) (omega arith));
     }
 
 pub next_free-first-requires : goal.next_free-first-requires
@@ -57,10 +41,11 @@ next_free-first-requires c =
 pub join_free-requires : goal.join_free-requires
 join_free-requires c =
     let some : 1 ≤ c.args.need = omega arith in
-    let enough : let a = c.args in a.need ≤ length (free_from (map_entry a.image.now) a.n c.next_free-first.result.0) = let a = c.args in
-    omega (arith, c.requires.3, ap length (free_from_lem (map_entry a.image.now) a.n c.next_free-first.result.0 c.next_free-first.ensures)) in
+    let a = c.args in
     let p = c.requires in
     let f = c.next_free-first.ensures in
+    let enough : a.need ≤ length (free_from (map_entry a.image.now) a.n c.next_free-first.result.0) =
+    omega (arith, p.3, ap length (free_from_lem (map_entry a.image.now) a.n c.next_free-first.result.0 f)) in
     (p.0, p.1, f.low, f.high, f.free, some, enough)
 
 pub returns-then-k-eq0-2 : goal.returns-then-k-eq0-2
@@ -79,10 +64,10 @@ returns-then-k-eq0-2 c =
 pub join_free-requires-2 : goal.join_free-requires-2
 join_free-requires-2 c =
     let some : 1 ≤ c.args.need = omega arith in
-    let count : let a = c.args in a.k ≡ suc (a.k - 1) = omega arith in
-    let chain : let a = c.args in runs (map_entry a.image.now) a.n (suc (a.k - 1)) a.s.0 ≡ true = subst (λ j. runs (map_entry c.args.image.now) c.args.n j c.args.s.0 ≡ true) count (c.requires.2 (omega arith)) in
-    let stands : let a = c.args in c.block_at-last.result.0 ≡ at (map_entry a.image.now) a.s.0 (a.k - 1) = c.block_at-last.ensures.stands (suc (c.args.k - 1)) (omega arith) in
     let a = c.args in
+    let count : a.k ≡ suc (a.k - 1) = omega arith in
+    let chain = subst (λ j. runs (map_entry a.image.now) a.n j a.s.0 ≡ true) count (c.requires.2 (omega arith)) in
+    let stands = c.block_at-last.ensures.stands (suc (a.k - 1)) (omega arith) in
     let p = c.requires in
     let f = c.next_free-first.ensures in
     let x = c.next_free-first.result.0 in
@@ -97,10 +82,10 @@ unfolding Bytes
 returns c =
     let bytes : Bytes c.args.image.now = λ i. omega (arith, c.slice_known-1.given i) in
     let some : 1 ≤ c.args.need = omega arith in
-    let count : let a = c.args in a.k ≡ suc (a.k - 1) = omega arith in
-    let chain : let a = c.args in runs (map_entry a.image.now) a.n (suc (a.k - 1)) a.s.0 ≡ true = subst (λ j. runs (map_entry c.args.image.now) c.args.n j c.args.s.0 ≡ true) count (c.requires.2 (omega arith)) in
-    let stands : let a = c.args in c.block_at-last.result.0 ≡ at (map_entry a.image.now) a.s.0 (a.k - 1) = c.block_at-last.ensures.stands (suc (c.args.k - 1)) (omega arith) in
     let a = c.args in
+    let count : a.k ≡ suc (a.k - 1) = omega arith in
+    let chain = subst (λ j. runs (map_entry a.image.now) a.n j a.s.0 ≡ true) count (c.requires.2 (omega arith)) in
+    let stands = c.block_at-last.ensures.stands (suc (a.k - 1)) (omega arith) in
     let p = c.requires in
     let f = c.next_free-first.ensures in
     let x = c.next_free-first.result.0 in
