@@ -4,11 +4,10 @@ use mathlib.Core.Path.{◌≡◌, refl, sym, ap, ◌∙◌}
 use mathlib.Core.List.{List, [], ◌∷◌, ◌++◌, append_assoc}
 use native.Mathlib.Omega.{arith}
 use lib.ListN.{length}
-use lib.Seq.{sets, paste, take_all}
+use lib.Seq.{paste}
 use Rattle.model.specs.Bytes.{bytes32, zeros, part}
 use Rattle.model.specs.Directory.{padded, size_for, entries, read_end}
 use Rattle.model.specs.Calls.{new_entry, date_and_name, filled}
-use Rattle.laws.proofs.Places.{sets_inside}
 use Rattle.entries.specs.Blocks.{Block}
 use Rattle.entries.proofs.Rooming.{added_stores}
 use Rattle.entries.proofs.Titles.{Laid, laid_size, zeros_split, title, pad, title_laid, entry_laid}
@@ -49,22 +48,6 @@ module _ (number : ℕ) (finder : List ℕ) (created : ℕ) where
   -- its bytes up to the change date
   abbrev new_head : List ℕ
   new_head = 0x80 ∷ 0 ∷ (finder ++ (bytes32 number ++ (zeros 20 ++ bytes32 created)))
-
-  -- their stores over zeros
-  pub head_stores : length finder ≡ 16 → (a b c : List ℕ) → a ≡ paste (0x80 ∷ zeros 45) 2 finder (length finder) → b ≡ sets a 18 (bytes32 number)
-      → c ≡ sets b 42 (bytes32 created) → c ≡ new_head
-  head_stores whole a b c pa pb pc =
-      let front : List ℕ = 0x80 ∷ 0 ∷ finder in
-      let first : 18 ≡ length front + 0 = omega arith in
-      let second : 42 ≡ length front + 24 = omega arith in
-      let qa : a ≡ front ++ zeros 28
-      = pa ∙ ap (paste (0x80 ∷ zeros 45) 2 finder) whole ∙ ap (λ (t : List ℕ). 0x80 ∷ 0 ∷ (t ++ zeros 28)) (take_all 16 finder (omega arith)) in
-      let qb : b ≡ front ++ (bytes32 number ++ zeros 24)
-      = pb ∙ ap (λ (t : List ℕ). sets t 18 (bytes32 number)) qa ∙ ap (λ (i : ℕ). sets (front ++ zeros 28) i (bytes32 number)) first
-      ∙ sets_inside (bytes32 number) front (zeros 28) [] 0 (omega arith) in
-      pc ∙ ap (λ (t : List ℕ). sets t 42 (bytes32 created)) qb
-      ∙ ap (λ (i : ℕ). sets (front ++ (bytes32 number ++ zeros 24)) i (bytes32 created)) second
-      ∙ sets_inside (bytes32 created) front (bytes32 number ++ zeros 24) [] 24 (omega arith)
 
   -- the entry
   pub new_parts : (name : List ℕ) (changed : ℕ) (head : List ℕ) → head ≡ new_head

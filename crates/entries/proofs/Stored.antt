@@ -1,9 +1,8 @@
--- Laws of what is stored in an entry: the stores of the code, one behind the other, as the model's stores.
-use Prim.Native.Nat.{ℕ, suc, ◌+◌}
-use mathlib.Core.Path.{◌≡◌, ap, ◌∙◌}
-use mathlib.Core.List.{List, ◌++◌}
-use native.Mathlib.Omega.{arith}
-use lib.Seq.{sets}
+-- What is stored in an entry, and laws of bytes stored by one copy, as the model's stores.
+use Rattle.std.proofs.Common.{ℕ, List, ◌++◌, length, ◌≡◌, ◌+◌, ◌-◌, ◌≤◌, sym, ap, ◌∙◌, arith}
+use Rattle.std.proofs.lemmas.Slice.{put_mid-paste}
+use borrow.Rule.Slice.PartMut.{put_mid}
+use lib.Seq.{sets, sets-eq, paste, take-length}
 use Rattle.model.specs.Bytes.{bytes16, bytes32}
 use Rattle.model.specs.declared.ForkFacts.{ForkFacts}
 
@@ -11,17 +10,11 @@ use Rattle.model.specs.declared.ForkFacts.{ForkFacts}
 abbrev pub fields : ForkFacts → List ℕ
 fields g = bytes16 g.start.0 ++ (bytes32 g.logical ++ bytes32 g.physical)
 
-pub fork_stores : (l : List ℕ) (at : ℕ) (g : ForkFacts) (x y z : List ℕ)
-    → x ≡ sets l at (bytes16 g.start.0) → y ≡ sets x (at + 2) (bytes32 g.logical) → z ≡ sets y (at + 6) (bytes32 g.physical)
-    → z ≡ sets l at (fields g)
-fork_stores l at g x y z a b c =
-    let two : at + 2 ≡ suc (suc at) = omega arith in
-    let six : at + 6 ≡ suc (suc (suc (suc (suc (suc at))))) = omega arith in
-    c ∙ ap (λ (t : List ℕ). sets t (at + 6) (bytes32 g.physical)) (b ∙ ap (λ (t : List ℕ). sets t (at + 2) (bytes32 g.logical)) a) ∙ rw (two, six)
+pub sets_paste : (vs l : List ℕ) (i : ℕ) → i + length vs ≤ length l → sets l i vs ≡ paste l i vs (length vs)
+sets_paste vs l i h = sets-eq vs l i h ∙ rw (take-length vs)
 
--- and the change date; r is the fork's place
-pub date_stores : (l : List ℕ) (start r place : ℕ) (g : ForkFacts) (changed : ℕ) (x y : List ℕ)
-    → r ≡ place → x ≡ sets l (start + r) (fields g) → y ≡ sets x (start + 46) (bytes32 changed)
-    → y ≡ sets (sets l (start + place) (fields g)) (start + 46) (bytes32 changed)
-date_stores l start r place g changed x y p a b =
-    b ∙ ap (λ (t : List ℕ). sets t (start + 46) (bytes32 changed)) (a ∙ ap (λ (n : ℕ). sets l (start + n) (fields g)) p)
+-- the n bytes of a number
+pub number_stored : (l : List ℕ) (at n : ℕ) (part vs : List ℕ) → part ≡ vs → length vs ≡ n → at + n ≤ length l
+    → put_mid at (at + n - at) l part ≡ sets l at vs
+number_stored l at n part vs p h w =
+    put_mid-paste at (at + n - at) l part vs n p (omega arith) (sym h) ∙ ap (paste l at vs) (sym h) ∙ sym (sets_paste vs l at (omega arith))

@@ -4,22 +4,20 @@ use mathlib.Core.Path.{◌≡◌, refl, sym, ap, ◌∙◌}
 use mathlib.Core.List.{List, [], ◌∷◌, ◌++◌, append_assoc}
 use native.Mathlib.Omega.{arith}
 use lib.ListN.{length, set, take, drop, length-drop, length-append, length-replicate, take-append-drop, replicate-append-replicate}
-use lib.Seq.{sets, sets-eq, paste, length-paste, length-take-le, take-length, take_all, take-take, take-add}
+use lib.Seq.{sets, paste, length-paste, length-take-le, take_all, take-take, take-add}
 use Rattle.model.specs.Bytes.{bytes32, zeros, part}
 use Rattle.model.specs.Directory.{padded, size_for}
 use Rattle.model.specs.Calls.{date_and_name, retitled}
 use Rattle.directory.specs.declared.EntryAt.{EntryAt}
 use Rattle.directory.specs.Cursor.{bytes_at}
 use Rattle.entries.proofs.Blocks.{paste_next}
+use Rattle.entries.proofs.Stored.{sets_paste}
 
 -- x is m with c, which has n bytes, from place s on
 pub record Laid (m : List ℕ) (s : ℕ) (c : List ℕ) (n : ℕ) (x : List ℕ) : Type 0 where
   pub long : length c ≡ n
   pub fits : s + n ≤ length m
   pub is : x ≡ paste m s c n
-
-pub sets_paste : (vs l : List ℕ) (i : ℕ) → i + length vs ≤ length l → sets l i vs ≡ paste l i vs (length vs)
-sets_paste vs l i h = sets-eq vs l i h ∙ rw (take-length vs)
 
 module _ (m : List ℕ) (s : ℕ) where
   first_sets : (d : List ℕ) (k : ℕ) → length d ≡ k → s + k ≤ length m → (y : List ℕ) → y ≡ sets m s d → Laid m s d k y

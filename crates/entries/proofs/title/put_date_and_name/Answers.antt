@@ -1,12 +1,7 @@
 -- `put_date_and_name` meets its contract: three stores, one right behind the other. Assumes nothing.
 use mathlib.Core.Path.{refl}
-use native.Mathlib.Omega.{arith}
-use lib.ListN.{length-set}
 use Rattle.entries.proofs.Titles.{title_stores}
 use Rattle.entries.proofs.title.put_date_and_name.Goals as goal
-
-pub put_bytes-requires : goal.put_bytes-requires
-put_bytes-requires c = rw length-set (omega (arith, c.put32_at.auto.s))
 
 pub returns : goal.returns
 returns c =
