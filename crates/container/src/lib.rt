@@ -8,6 +8,6 @@ mod sum;
 mod wrapping;
 
 pub use header::judge;
-pub use parts::{DATA_AT, data, data_end};
+pub use parts::{DATA_AT, DATA_END, data};
 pub use renewing::renew;
 pub use wrapping::{bad_lengths, fill};

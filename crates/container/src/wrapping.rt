@@ -18,7 +18,7 @@ pub fn bad_lengths(image: usize, buffer: usize, name: usize) -> bool
 }
 
 // The header of a file without tags.
-fn new_header(name: &[u8], format: u8, sum: u32) -> [u8; 84]
+fn new_header(name: &[u8], format: u8, sum: u32) -> [u8; DATA_AT]
     requires { length name.now ≤ 63 }
     ensures { result ≡ header_for name.now format sum }
 {

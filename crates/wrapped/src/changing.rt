@@ -3,18 +3,23 @@ ghost use Rattle.model.specs.Calls.{Call};
 ghost use Rattle.model.specs.Wrapped.{DoesWrapped};
 ghost use Rattle.files.specs.Told.{told_number};
 
-use container::{DATA_AT, data_end, judge, renew};
+use container::{DATA_AT, DATA_END, judge, renew};
 use model::{Fork, Refusal};
 
 // Puts in an empty file.
-pub fn create(file: &mut [u8], name: &[u8], finder: &[u8; 16], created: u32, changed: u32) -> Result<(), Refusal>
+pub fn create(
+    file: &mut [u8],
+    name: &[u8],
+    finder: &[u8; 16],
+    created: u32,
+    changed: u32,
+) -> Result<(), Refusal>
     ensures { DoesWrapped (Call.create name.now finder.now created changed)
         file.old (told_number result) file.new }
 {
     call_create::whole(finder);
     judge(file)?;
-    let end = data_end();
-    volume::create(&mut file[DATA_AT..end], name, finder, created, changed)?;
+    volume::create(&mut file[DATA_AT..DATA_END], name, finder, created, changed)?;
     renew(file);
     Ok(())
 }
@@ -32,8 +37,14 @@ pub fn write(
         file.old (told_number result) file.new }
 {
     judge(file)?;
-    let end = data_end();
-    volume::write(&mut file[DATA_AT..end], name, fork, offset, bytes, changed)?;
+    volume::write(
+        &mut file[DATA_AT..DATA_END],
+        name,
+        fork,
+        offset,
+        bytes,
+        changed,
+    )?;
     renew(file);
     Ok(())
 }
@@ -43,8 +54,7 @@ pub fn cut(file: &mut [u8], name: &[u8], fork: Fork, size: u64, changed: u32) ->
     ensures { DoesWrapped (Call.cut name.now fork size changed) file.old (told_number result) file.new }
 {
     judge(file)?;
-    let end = data_end();
-    volume::cut(&mut file[DATA_AT..end], name, fork, size, changed)?;
+    volume::cut(&mut file[DATA_AT..DATA_END], name, fork, size, changed)?;
     renew(file);
     Ok(())
 }
@@ -54,8 +64,7 @@ pub fn delete(file: &mut [u8], name: &[u8]) -> Result<(), Refusal>
     ensures { DoesWrapped (Call.delete name.now) file.old (told_number result) file.new }
 {
     judge(file)?;
-    let end = data_end();
-    volume::delete(&mut file[DATA_AT..end], name)?;
+    volume::delete(&mut file[DATA_AT..DATA_END], name)?;
     renew(file);
     Ok(())
 }

@@ -21,7 +21,7 @@ returns-in_err-judge c =
     (stopped _ file_bytes (cut a.name.now a.fork a.size a.changed) _ refl (octets _ c.type_inv.name, omega arith, omega arith) c.in_err-judge.ensures (number_some _))
 
 pub slice_bounds-cut-end : goal.slice_bounds-cut-end
-slice_bounds-cut-end c = reach _ _ c.data_end-end.ensures (sym c.in_ok-judge.ensures)
+slice_bounds-cut-end c = reach _ _ refl (sym c.in_ok-judge.ensures)
 
 pub returns-in_err-cut : goal.returns-in_err-cut
 unfolding serves_wrapped
@@ -29,14 +29,14 @@ returns-in_err-cut c =
     let file_bytes : Bytes c.args.file.now = octets _ c.slice_known-1.given in
     let p = err_from_is_err_and c.from_residual-in_err-cut.result c.from_residual-in_err-cut.ensures.1 in
     rw (p.1, p.2)
-    (changed_not _ file_bytes c.data_end-end.result c.data_end-end.ensures c.cut.new.image (sym c.in_ok-judge.ensures) refl _ c.in_err-cut.ensures)
+    (changed_not _ file_bytes 409684 refl c.cut.new.image (sym c.in_ok-judge.ensures) refl _ c.in_err-cut.ensures)
 
 pub renew-requires : goal.renew-requires
-renew-requires c = room_after _ c.cut.new.image c.data_end-end.result (sym c.in_ok-judge.ensures) c.cut.auto.image
+renew-requires c = room_after _ c.cut.new.image 409684 (sym c.in_ok-judge.ensures) c.cut.auto.image
 
 pub returns : goal.returns
 unfolding serves_wrapped
 returns c =
     let file_bytes : Bytes c.args.file.now = octets _ c.slice_known-1.given in
-    changed _ file_bytes c.data_end-end.result c.data_end-end.ensures c.cut.new.image (sym c.in_ok-judge.ensures) refl c.cut.auto.image
+    changed _ file_bytes 409684 refl c.cut.new.image (sym c.in_ok-judge.ensures) refl c.cut.auto.image
     c.renew.new.file c.in_ok-cut.ensures c.renew.ensures

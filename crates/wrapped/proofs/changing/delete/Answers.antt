@@ -20,7 +20,7 @@ returns-in_err-judge c =
     (stopped _ file_bytes (delete a.name.now) _ refl (octets _ c.type_inv.name) c.in_err-judge.ensures (number_some _))
 
 pub slice_bounds-delete-end : goal.slice_bounds-delete-end
-slice_bounds-delete-end c = reach _ _ c.data_end-end.ensures (sym c.in_ok-judge.ensures)
+slice_bounds-delete-end c = reach _ _ refl (sym c.in_ok-judge.ensures)
 
 pub returns-in_err-delete : goal.returns-in_err-delete
 unfolding serves_wrapped
@@ -28,14 +28,14 @@ returns-in_err-delete c =
     let file_bytes : Bytes c.args.file.now = octets _ c.slice_known-1.given in
     let p = err_from_is_err_and c.from_residual-in_err-delete.result c.from_residual-in_err-delete.ensures.1 in
     rw (p.1, p.2)
-    (changed_not _ file_bytes c.data_end-end.result c.data_end-end.ensures c.delete.new.image (sym c.in_ok-judge.ensures) refl _ c.in_err-delete.ensures)
+    (changed_not _ file_bytes 409684 refl c.delete.new.image (sym c.in_ok-judge.ensures) refl _ c.in_err-delete.ensures)
 
 pub renew-requires : goal.renew-requires
-renew-requires c = room_after _ c.delete.new.image c.data_end-end.result (sym c.in_ok-judge.ensures) c.delete.auto.image
+renew-requires c = room_after _ c.delete.new.image 409684 (sym c.in_ok-judge.ensures) c.delete.auto.image
 
 pub returns : goal.returns
 unfolding serves_wrapped
 returns c =
     let file_bytes : Bytes c.args.file.now = octets _ c.slice_known-1.given in
-    changed _ file_bytes c.data_end-end.result c.data_end-end.ensures c.delete.new.image (sym c.in_ok-judge.ensures) refl c.delete.auto.image
+    changed _ file_bytes 409684 refl c.delete.new.image (sym c.in_ok-judge.ensures) refl c.delete.auto.image
     c.renew.new.file c.in_ok-delete.ensures c.renew.ensures
