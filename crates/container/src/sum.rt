@@ -14,9 +14,7 @@ pub fn checksum(bytes: &[u8]) -> u32
     ensures { result ≡ checksum bytes.now }
 {
     let (words, _) = bytes.as_chunks();
-    let mut sum = 0;
-    for word in words {
-        sum = add(sum, u16::from_be_bytes(*word));
-    }
-    sum
+    words
+        .iter()
+        .fold(0, |sum, word| add(sum, u16::from_be_bytes(*word)))
 }
