@@ -2,13 +2,15 @@
 -- step.
 use Prim.Native.Nat.{ℕ, zero, suc, ◌+◌, ◌-◌, ◌*◌, ◌≤◌, ◌<◌}
 use mathlib.Core.Path.{◌≡◌, refl, sym, ap, ◌∙◌}
-use mathlib.Core.Bool.{Bool, true, false, and-false, or-true}
+use mathlib.Core.Bool.{Bool, true, false, not, and-false}
 use mathlib.Core.List.{List, [], ◌∷◌, ◌++◌, append_assoc, append-nil}
 use native.Mathlib.Omega.{arith}
 use native.Mathlib.Nat.{add_assoc, add-zero}
 use lib.ListN.{length, take, drop, length-drop, length-append}
 use lib.Seq.{length-take-le, get_or-drop, drop-drop}
 use lib.Dec.{leb, ltb}
+use Rattle.std.proofs.lemmas.Bool.Decides.{leb_tells}
+use mathlib.Core.Logic.{◌⊎◌, inl, inr}
 use borrow.Author.Tests.{le-leb, lt-leb, lt-ltb, le-ltb, eq-eqb, ne_eqb}
 use Rattle.model.specs.Lists.{flat}
 use Rattle.model.specs.Bytes.{byte, part}
@@ -73,13 +75,14 @@ module _ (image : List ℕ) (c : Cursor) (f : CursorFits image c) where
   unfolding in_use
   used h = ap (leb 128) (here 0 (omega arith) ∙ ap (byte image) (add-zero (c.base + c.at)))
 
-  pub ends_unused : c.at < 512 → byte image (c.base + c.at) < 128 → ends_at (block_of image c) c.at ≡ true
+  -- within the block the entry's first byte says it
+  pub ends_here : c.at < 512 → ltb (byte image (c.base + c.at)) 128 ≡ ends_at (block_of image c) c.at
   unfolding ends_at
-  ends_unused h u = rw (used h, lt-leb 128 (byte image (c.base + c.at)) u, or-true (leb 512 c.at))
-
-  pub ends_not : c.at < 512 → 128 ≤ byte image (c.base + c.at) → ends_at (block_of image c) c.at ≡ false
-  unfolding ends_at
-  ends_not h u = rw (used h, le-leb 128 (byte image (c.base + c.at)) u, lt-leb 512 c.at h)
+  ends_here h = rw (used h, lt-leb 512 c.at h) (go (byte image (c.base + c.at)) (leb_tells 128 (byte image (c.base + c.at))))
+    where
+      go : (x : ℕ) → ((leb 128 x ≡ true) × (128 ≤ x)) ⊎ ((leb 128 x ≡ false) × (x < 128)) → ltb x 128 ≡ not (leb 128 x)
+      go x (inl p) = rw (p.0, le-ltb x 128 p.1)
+      go x (inr p) = rw (p.0, lt-ltb x 128 p.1)
 
   size_here : c.at + 52 ≤ 512 → entry_size (drop c.at (block_of image c)) ≡ padded (51 + byte image (c.base + c.at + 50))
   unfolding entry_size

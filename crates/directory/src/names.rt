@@ -9,11 +9,7 @@ fn same_byte(x: u8, y: u8, fold: &[u8; 256]) -> bool
     requires { Folds fold.now }
     ensures { result ≡ same_byte x y }
 {
-    if x == y {
-        return true;
-    }
-    let upper = fold[x as usize];
-    upper == fold[y as usize]
+    x == y || fold[x as usize] == fold[y as usize]
 }
 
 // Whether two names are equal.
@@ -24,10 +20,8 @@ pub fn same_name(a: &[u8], b: &[u8], fold: &[u8; 256]) -> bool
     if a.len() != b.len() {
         return false;
     }
-    let mut left = a.len();
-    while 0 < left {
-        left -= 1;
-        if !same_byte(a[left], b[left], fold) {
+    for i in (0..a.len()).rev() {
+        if !same_byte(a[i], b[i], fold) {
             return false;
         }
     }

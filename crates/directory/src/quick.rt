@@ -44,10 +44,8 @@ pub fn quick_locate(image: &[u8], from: Cursor, name: &[u8]) -> Option<QuickFoun
     ensures { QuickFinds image.now name.now (cut_blocks (from.left + 1) (drop from.base image.now)) result }
 {
     let fold = fold_table();
-    let blocks = from.left + 1;
-    let mut looked: usize = 0;
     let mut place: usize = 0;
-    while looked < blocks {
+    for looked in 0..from.left + 1 {
         let base = from.base + looked * Cursor::BLOCK;
         let block = Cursor {
             base,
@@ -64,7 +62,6 @@ pub fn quick_locate(image: &[u8], from: Cursor, name: &[u8]) -> Option<QuickFoun
             }
             ControlFlow::Continue(count) => {
                 place += count;
-                looked += 1;
             }
         }
     }

@@ -29,15 +29,7 @@ impl Cursor {
         requires { CursorFits image.now self }
         ensures { result ≡ ends_at (block_of image.now self) self.at }
     {
-        let at = self.at;
-        if Self::BLOCK <= at {
-            return true;
-        }
-        let start = self.base + at;
-        if image[start] < Self::IN_USE {
-            return true;
-        }
-        false
+        Self::BLOCK <= self.at || image[self.base + self.at] < Self::IN_USE
     }
 
     // The entry here, where the block's reading does not end.

@@ -1,14 +1,11 @@
 -- `Cursor::ends` meets its contract. Assumes nothing.
-use mathlib.Core.Path.{sym}
-use native.Mathlib.Omega.{arith}
-use Rattle.directory.proofs.Steps.{ends_block, ends_unused, ends_not}
+use mathlib.Core.Path.{sym, ◌∙◌}
+use borrow.Author.Tests.{le-leb}
+use Rattle.directory.proofs.Steps.{ends_block, ends_here}
 use Rattle.directory.proofs.Cursor.ends.Goals as goal
 
-pub returns-then-at-ge-BLOCK : goal.returns-then-at-ge-BLOCK
-returns-then-at-ge-BLOCK c = sym (ends_block c.args.image.now c.args.self c.requires (omega arith))
+pub returns-then-self-ge-BLOCK : goal.returns-then-self-ge-BLOCK
+returns-then-self-ge-BLOCK c = le-leb _ _ c.if-self-ge-BLOCK.true ∙ sym (ends_block c.args.image.now c.args.self c.requires c.if-self-ge-BLOCK.true)
 
-pub returns-then-image-start-lt-IN_USE : goal.returns-then-image-start-lt-IN_USE
-returns-then-image-start-lt-IN_USE c = sym (ends_unused c.args.image.now c.args.self c.requires (omega arith) c.if-image-start-lt-IN_USE.true)
-
-pub returns : goal.returns
-returns c = sym (ends_not c.args.image.now c.args.self c.requires (omega arith) c.if-image-start-lt-IN_USE.false)
+pub returns-else-self-ge-BLOCK : goal.returns-else-self-ge-BLOCK
+returns-else-self-ge-BLOCK c = ends_here c.args.image.now c.args.self c.requires c.if-self-ge-BLOCK.false
