@@ -14,20 +14,8 @@ returns-then-at-gt-BLOCK c = short c.args.image.now c.args.self c.requires.curso
 pub returns-then-image-start-ne0 : goal.returns-then-image-start-ne0
 returns-then-image-start-ne0 c = version c.args.image.now c.args.self c.requires.cursor_fits c.requires.at_value (omega arith) c.if-image-start-ne0.true
 
-pub overflow_cast-name_length : goal.overflow_cast-name_length
-overflow_cast-name_length c =
-    let title : ℕ = let a = c.args in byte a.image.now (a.self.base + a.self.at + 50) in
-    let small : title < 256 = let a = c.args in (c.type_inv.image (a.self.base + a.self.at + 50)).fits in
-    omega (arith, small)
-
 pub returns-then-name_length-eq0 : goal.returns-then-name_length-eq0
 returns-then-name_length-eq0 c = nameless c.args.image.now c.args.self c.requires.cursor_fits c.requires.at_value (omega arith) c.if-name_length-eq0.true
-
-pub entry_size-requires : goal.entry_size-requires
-entry_size-requires c =
-    let title : ℕ = let a = c.args in byte a.image.now (a.self.base + a.self.at + 50) in
-    let small : title < 256 = let a = c.args in (c.type_inv.image (a.self.base + a.self.at + 50)).fits in
-    omega (arith, small)
 
 pub overflow_add-next : goal.overflow_add-next
 unfolding padded

@@ -1,6 +1,6 @@
 -- `Cursor::next` meets its contract. The loop's invariant: the entries from c on are those from the given cursor on. The measure
 -- is the number of blocks left. Assumes nothing.
-use mathlib.Core.Path.{◌≡◌, refl, sym, ◌∙◌}
+use mathlib.Core.Path.{◌≡◌, sym, ◌∙◌}
 use native.Mathlib.Omega.{arith}
 use mathlib.Core.Bool.{true}
 use Rattle.model.specs.Directory.{ends_at}
@@ -8,12 +8,6 @@ use Rattle.directory.specs.Cursor.{block_of}
 use Rattle.directory.proofs.Each.{stepped_err}
 use Rattle.directory.proofs.Steps.{last_block, next_block, comes_block, moves_from, fails_from}
 use Rattle.directory.proofs.Cursor.next.Goals as goal
-
-pub loop-c-init : goal.loop-c-init
-loop-c-init c = (c.requires, refl, omega arith, λ base blocks k. k)
-
-pub ends-requires : goal.ends-requires
-ends-requires c = c.loop-c.invariant.0
 
 pub returns-then-c-eq0 : goal.returns-then-c-eq0
 returns-then-c-eq0 c =
@@ -31,9 +25,6 @@ loop-c-preserved c =
       omega arith,
       λ base blocks k. comes_block image l.c base blocks c.if-c-eq0.false (l.invariant.3 base blocks k),
     )
-
-pub entry-requires : goal.entry-requires
-entry-requires c = record { cursor_fits = c.loop-c.invariant.0; at_value = sym c.ends.ensures ∙ c.loop-c-test.false }
 
 pub returns : goal.returns
 returns c =

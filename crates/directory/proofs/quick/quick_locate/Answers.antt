@@ -6,7 +6,7 @@ use native.Mathlib.Omega.{arith}
 use lib.ListN.{drop}
 use Rattle.model.specs.Bytes.{part}
 use Rattle.model.specs.Directory.{cut_blocks}
-use Rattle.directory.proofs.QuickSteps.{one_block, few, blocks_from, from_next, Past, none_past, all_past, past_more}
+use Rattle.directory.proofs.QuickSteps.{one_block, few, blocks_from, from_next, Past, all_past, past_more}
 use Rattle.directory.proofs.QuickSteps.{found_few, found_there, found_looked}
 use Rattle.directory.proofs.quick.quick_locate.Goals.{In-loop-looked}
 use Rattle.directory.proofs.quick.quick_locate.Goals as goal
@@ -17,12 +17,6 @@ here : (c : In-loop-looked) → let a = c.args in
     (part (a.from.base + c.loop-looked.looked * 512) 512 a.image.now
     ∷ blocks_from a.image.now a.from.base (a.from.left + 1) (c.loop-looked.looked + 1)) c.loop-looked.looked c.loop-looked.place
 here c = let a = c.args in rw (from_next a.image.now a.from.base (a.from.left + 1) c.loop-looked.looked (omega arith)) at c.loop-looked.invariant.past
-
-pub loop-looked-init : goal.loop-looked-init
-loop-looked-init c = let a = c.args in record { few = omega arith; past = none_past a.image.now a.name.now a.from.base (a.from.left + 1) }
-
-pub search_block-requires : goal.search_block-requires
-search_block-requires c = record { cursor_fits = record { blocks = omega arith; place = omega arith }; folds = c.fold_table-fold.ensures.folds }
 
 pub overflow_add-result : goal.overflow_add-result
 overflow_add-result c =

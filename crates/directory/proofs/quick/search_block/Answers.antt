@@ -1,22 +1,16 @@
 -- `search_block` meets its contract. The loop's invariant: of the entries so read those before c have another name. Assumes nothing.
-use mathlib.Core.Path.{refl, sym, ◌∙◌}
+use mathlib.Core.Path.{sym, ◌∙◌}
 use native.Mathlib.Omega.{arith}
 use Rattle.model.specs.Check.{good_entry}
 use Rattle.laws.proofs.Quick.{leading_more}
 use Rattle.directory.specs.Cursor.{Moves}
-use Rattle.directory.proofs.Tests.{onward_start, onward_more, onward_found, onward_end}
+use Rattle.directory.proofs.Tests.{onward_more, onward_found, onward_end}
 use Rattle.directory.proofs.QuickSteps.{moved, ended}
 use Rattle.directory.proofs.quick.search_block.Goals.{In-Some}
 use Rattle.directory.proofs.quick.search_block.Goals as goal
 
 step : (c : In-Some) → Moves c.args.image.now c.loop-entry.c c.in-Some.entry c.in-Some.behind
 step c = moved _ c.next.ensures (sym c.unwrap_or.ensures ∙ c.in-Some.is)
-
-pub loop-entry-init : goal.loop-entry-init
-loop-entry-init c = record { fits = c.requires.cursor_fits; few = omega arith; onward = onward_start _ _ refl refl }
-
-pub has_name-requires : goal.has_name-requires
-has_name-requires c = record { stands = (step (goal.at.has_name-requires c).In-Some).stands; folds = c.requires.folds }
 
 pub returns-then-has_name : goal.returns-then-has_name
 returns-then-has_name c =
@@ -28,12 +22,6 @@ returns-then-has_name c =
       bytes = f.2;
       stands = m.stands;
     }
-
-pub overflow_add-place : goal.overflow_add-place
-overflow_add-place c = omega (arith, (step (goal.at.overflow_add-place c).In-Some).less)
-
-pub loop-entry-smaller : goal.loop-entry-smaller
-loop-entry-smaller c = (step (goal.at.loop-entry-smaller c).In-Some).less
 
 pub loop-entry-preserved : goal.loop-entry-preserved
 loop-entry-preserved c =

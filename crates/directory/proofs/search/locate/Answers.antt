@@ -22,11 +22,6 @@ loop-place-init c =
       comes = λ base blocks h. rw at.1 h;
     }
 
-pub has_name-requires : goal.has_name-requires
-has_name-requires c =
-    let step = rw c.loop-place.invariant.image at c.in-Some.ensures.steps.0.1 in
-    record { stands = step.moves.stands; folds = c.fold_table-fold.ensures.folds }
-
 pub returns-then-has_name : goal.returns-then-has_name
 returns-then-has_name c =
     let l = c.loop-place.invariant in
