@@ -10,7 +10,7 @@ use Rattle.directory.specs.declared.Cursor.{Cursor}
 use Rattle.directory.specs.declared.EntryAt.{EntryAt}
 use Rattle.directory.specs.declared.BadEntry.{BadEntry}
 use Rattle.directory.specs.Cursor.{rest_of, Passes, Moves, Fails, Stepped, Advanced}
-use Rattle.std.specs.Prelude.{Option, Some, None, Result, Ok, Err, IsOk, IsErr}
+use Rattle.std.specs.Prelude.{Option, Some, None, Result, Ok, Err, IsOk}
 
 pub differs : true ≡ false → ⊥
 differs h = so_not true h refl
@@ -46,7 +46,3 @@ module _ {image : List ℕ} {c : Cursor} (p : Passes image c) where
   pub advances : (m : Option (EntryAt × Cursor)) → Stepped image c (Ok m) → Advanced image c m
   advances (Some m) h = record { moves = h; passes = passes_more h }
   advances None h = h
-
-pub stepped_err : {image : List ℕ} {c : Cursor} (s : Result (Option (EntryAt × Cursor)) BadEntry) → IsErr s → Fails image c → Stepped image c s
-stepped_err (Ok m) i h = absurd (cc)
-stepped_err (Err e) i h = h

@@ -1,6 +1,6 @@
 -- Laws of the quick search: what a search of one block found, and where the search of all blocks has come to.
 use Prim.Native.Nat.{ℕ, suc, ◌+◌, ◌-◌, ◌*◌, ◌≤◌, ◌<◌}
-use mathlib.Core.Path.{◌≡◌, refl, sym, ap, ◌∙◌}
+use mathlib.Core.Path.{◌≡◌, sym, ap, ◌∙◌}
 use mathlib.Core.Bool.{Bool, true, false, cond}
 use mathlib.Core.List.{List, [], ◌∷◌, append-nil}
 use native.Mathlib.Omega.{arith}
@@ -75,12 +75,6 @@ pub record Past (name : List ℕ) (bs rest : List (List ℕ)) (looked place : �
   pub it : first (named name) [] (quick_listing bs) ≡ first (named name) [] (quick_listing rest)
   pub there : place_of (named name) (quick_listing bs) ≡ place + place_of (named name) (quick_listing rest)
   pub count : looked_at name bs ≡ looked + looked_at name rest
-
-pub none_past : (image name : List ℕ) (base blocks : ℕ) → Past name (cut_blocks blocks (drop base image)) (blocks_from image base blocks 0) 0 0
-none_past image name base blocks =
-    let p : base + 0 * 512 ≡ base = omega arith in
-    let k : blocks - 0 ≡ blocks = omega arith in
-    rw (p, k) (record { exists = refl; it = refl; there = omega arith; count = omega arith })
 
 -- past the last
 pub all_past : (image : List ℕ) (base blocks looked : ℕ) {name : List ℕ} {place : ℕ} {bs : List (List ℕ)}

@@ -19,9 +19,8 @@ use Rattle.model.specs.Check.{good_entry}
 use Rattle.model.proofs.Lists.{flat_append}
 use Rattle.laws.proofs.Block.{size_low, step_end, step_more, good_take}
 use Rattle.directory.specs.declared.Cursor.{Cursor}
-use Rattle.directory.specs.declared.EntryAt.{EntryAt}
 use Rattle.directory.proofs.Parts.{part_part, part_byte}
-use Rattle.directory.specs.Cursor.{block_of, rest_of, CursorFits, Comes, Lies, ahead, Moves, Fails}
+use Rattle.directory.specs.Cursor.{block_of, rest_of, CursorFits, Comes, Lies, Moves, Fails}
 
 -- ---- any fuel that reaches the block's end is enough
 
@@ -244,25 +243,3 @@ pub comes_block : (image : List ℕ) (c : Cursor) (base blocks : ℕ) → (c.lef
     → Comes image base blocks (record { base = c.base + 512; at = 0; left = c.left - 1 })
 unfolding entries flat
 comes_block image c base blocks z k = record { index = k.index + 1; before = []; block = omega arith; count = omega arith; split = refl; place = refl }
-
--- a step from a cursor that has the same entries before it
-module _
-    {image : List ℕ}
-    {c d : Cursor}
-    (r : rest_of image d ≡ rest_of image c)
-    (l : ahead c ≤ ahead d)
-    (k : (base blocks : ℕ) → Comes image base blocks d → Comes image base blocks c)
-  where
-    pub moves_from : {e : EntryAt} {b : Cursor} → Moves image c e b → Moves image d e b
-    moves_from h = record {
-      rest = r ∙ h.rest;
-      good = h.good;
-      stands = h.stands;
-      fits = h.fits;
-      less = omega arith;
-      lies = λ base blocks m. h.lies base blocks (k base blocks m);
-      comes = λ base blocks m. h.comes base blocks (k base blocks m);
-    }
-
-    pub fails_from : Fails image c → Fails image d
-    fails_from h = record { entry = h.entry; others = h.others; rest = r ∙ h.rest; bad = h.bad }

@@ -53,9 +53,6 @@ pub record Onward {A : Type 0} (p : A → Bool) (d : A) (all rest : List A) (n :
   pub there : place_of p all ≡ n + place_of p rest
   pub count : length all ≡ n + length rest
 
-pub onward_start : {A : Type 0} (p : A → Bool) (d : A) {all rest : List A} {n : ℕ} → rest ≡ all → n ≡ 0 → Onward p d all rest n
-onward_start p d r z = rw (r, z) (record { exists = refl; it = refl; there = omega arith; count = omega arith })
-
 module _ {A : Type 0} {p : A → Bool} {d : A} {all rest : List A} {n : ℕ} (o : Onward p d all rest n) where
   module _ {x : A} {xs : List A} (r : rest ≡ x ∷ xs) where
     -- the next entry is not it

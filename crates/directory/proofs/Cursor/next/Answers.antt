@@ -5,8 +5,7 @@ use native.Mathlib.Omega.{arith}
 use mathlib.Core.Bool.{true}
 use Rattle.model.specs.Directory.{ends_at}
 use Rattle.directory.specs.Cursor.{block_of}
-use Rattle.directory.proofs.Each.{stepped_err}
-use Rattle.directory.proofs.Steps.{last_block, next_block, comes_block, moves_from, fails_from}
+use Rattle.directory.proofs.Steps.{last_block, next_block, comes_block}
 use Rattle.directory.proofs.Cursor.next.Goals as goal
 
 pub returns-then-c-eq0 : goal.returns-then-c-eq0
@@ -25,13 +24,3 @@ loop-c-preserved c =
       omega arith,
       λ base blocks k. comes_block image l.c base blocks c.if-c-eq0.false (l.invariant.3 base blocks k),
     )
-
-pub returns : goal.returns
-returns c =
-    let l = c.loop-c in
-    moves_from l.invariant.1 l.invariant.2 l.invariant.3 c.in_ok-entry.ensures
-
-pub returns-in_err-entry : goal.returns-in_err-entry
-returns-in_err-entry c =
-    let l = c.loop-c in
-    stepped_err _ c.from_residual.ensures.0 (fails_from l.invariant.1 l.invariant.2 l.invariant.3 c.in_err-entry.ensures)

@@ -1,26 +1,8 @@
 -- `locate` meets its contract. The loop's invariant: of all entries those before the iterator's have another name, and the directory's
 -- reading comes to the iterator's cursor. Assumes nothing.
-use mathlib.Core.Path.{sym, ap, ◌∙◌}
-use mathlib.Core.Logic.{inl}
-use native.Mathlib.Omega.{arith}
-use Rattle.std.specs.Iterator.Adapters.{enumerate_source, enumerate_count}
-use Rattle.directory.specs.Cursor.{rest_of, ahead}
-use Rattle.directory.proofs.Tests.{onward_start, onward_more, onward_found, onward_end}
-use Rattle.directory.proofs.Yielded.{begun}
+use mathlib.Core.Path.{sym, ◌∙◌}
+use Rattle.directory.proofs.Tests.{onward_more, onward_found, onward_end}
 use Rattle.directory.proofs.search.locate.Goals as goal
-
-pub loop-place-init : goal.loop-place-init
-loop-place-init c =
-    let it = c.into_iter-place-iterator.ensures.into_iter_gives in
-    let none = ap enumerate_count it ∙ c.enumerate-place-items.ensures.count in
-    let s = ap enumerate_source it ∙ c.enumerate-place-items.ensures.source in
-    let at = begun s c.entries.ensures in
-    record {
-      can = (tt, tt, inl (omega (arith, none, ap ahead at.1)));
-      image = at.0;
-      onward = onward_start _ _ (ap (rest_of c.args.image.now) at.1) none;
-      comes = λ base blocks h. rw at.1 h;
-    }
 
 pub returns-then-has_name : goal.returns-then-has_name
 returns-then-has_name c =
