@@ -35,10 +35,7 @@ fn clashes(image: &[u8], e: EntryAt, d: EntryAt, fold: &[u8; 256]) -> bool
     requires folds { Folds fold.now }
     ensures { result ≡ clash (bytes_at image.now e) (bytes_at image.now d) }
 {
-    if same(image, e, d, Field::Number, fold) {
-        return true;
-    }
-    same(image, e, d, Field::Name, fold)
+    same(image, e, d, Field::Number, fold) || same(image, e, d, Field::Name, fold)
 }
 
 // Whether the entry clashes with one from the cursor on.

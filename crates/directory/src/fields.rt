@@ -5,7 +5,7 @@ ghost use Rattle.model.specs.Directory.{number_in, fork_place, fork_of, fork_in,
 ghost use Rattle.directory.specs.Cursor.{bytes_at, Stands};
 
 use crate::EntryAt;
-use model::{AllocationBlock, DirectoryEntry, Fork, ForkFacts, be16_at, be32_at, copy_part};
+use model::{AllocationBlock, DirectoryEntry, Fork, ForkFacts, be16_at, be32_at};
 
 // The file number.
 pub fn number_of(image: &[u8], e: EntryAt) -> u32
@@ -49,7 +49,7 @@ fn finder_at(image: &[u8], at: usize) -> [u8; 16]
     ensures { result ≡ part at 16 image.now }
 {
     let mut finder = [0; 16];
-    copy_part(image, at, &mut finder, 0, 16);
+    finder.copy_from_slice(&image[at..at + 16]);
     finder
 }
 
@@ -59,7 +59,7 @@ fn name_at(image: &[u8], at: usize, count: usize) -> [u8; 255]
     ensures { result ≡ wide (part at count image.now) }
 {
     let mut name = [0; EntryAt::MOST_NAME];
-    copy_part(image, at, &mut name, 0, count);
+    name[..count].copy_from_slice(&image[at..at + count]);
     name
 }
 

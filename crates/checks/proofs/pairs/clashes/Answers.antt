@@ -4,7 +4,7 @@ use Rattle.checks.proofs.Clashes.{clash_number, clash_name}
 use Rattle.checks.proofs.pairs.clashes.Goals as goal
 
 pub returns-then-same : goal.returns-then-same
-returns-then-same c = sym (clash_number _ _ (sym c.same.ensures ∙ c.if-same.true))
+returns-then-same c = c.if-same.true ∙ sym (clash_number _ _ (sym c.same.ensures ∙ c.if-same.true))
 
-pub returns : goal.returns
-returns c = c.same-2.ensures ∙ sym (clash_name _ _ (sym c.same.ensures ∙ c.if-same.false))
+pub returns-else-same : goal.returns-else-same
+returns-else-same c = c.same-else-same.ensures ∙ sym (clash_name _ _ (sym c.same.ensures ∙ c.if-same.false))
