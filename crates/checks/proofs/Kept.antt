@@ -2,7 +2,7 @@
 use Prim.Native.Nat.{ℕ, ◌+◌, ◌-◌, ◌≤◌, ◌<◌}
 use mathlib.Core.Path.{◌≡◌, refl, sym, ap, ◌∙◌, subst⁻¹}
 use mathlib.Core.Bool.{Bool, true, false}
-use mathlib.Core.List.{List, [], ◌∷◌, ◌++◌, append_assoc, append-nil}
+use mathlib.Core.List.{List, [], ◌∷◌, ◌++◌, append_assoc}
 use native.Mathlib.Omega.{arith}
 use native.Mathlib.Decide.{ℕ_discrete, dec_lt}
 use lib.ListN.{length, get_or, set, replicate, length-set, length-replicate, get_or-replicate, get_or-eq_default}
@@ -91,10 +91,6 @@ module _ {field : Field} {image : List ℕ} {all : List (List ℕ)} {table : Lis
   -- the same entries left
   pub kept_same : {left rest : List (List ℕ)} → Kept field image all left table → left ≡ rest → Kept field image all rest table
   kept_same k r = rw r at k
-
-  -- where none is left, all differ
-  pub kept_end : Kept field image all [] table → distinct (same_by field) all ≡ true
-  kept_end k = ap (distinct (same_by field)) (k.whole ∙ append-nil k.done) ∙ k.apart
 
   -- where the next is the same as an earlier one, they do not
   pub kept_met : {e : List ℕ} {left : List (List ℕ)} → Kept field image all (e ∷ left) table → Met field image table e

@@ -1,24 +1,9 @@
 -- `clashes_behind` meets its contract. The loop's invariant: the entry clashes with one where it does with one that the iterator has left.
 -- Assumes nothing.
-use mathlib.Core.Path.{refl, sym, ap, ◌∙◌}
+use mathlib.Core.Path.{sym, ap, ◌∙◌}
 use Rattle.model.specs.Lists.{any}
 use Rattle.directory.proofs.Tests.{any_pass, any_fail}
-use Rattle.directory.proofs.Yielded.{begun}
 use Rattle.checks.proofs.pairs.clashes_behind.Goals as goal
-
-pub loop-d-init : goal.loop-d-init
-loop-d-init c =
-    let at = begun c.into_iter-d-iterator.ensures.into_iter_gives c.entries-d-items.ensures in
-    record { same = at.0; exists = rw at.1 refl }
-
-pub clashes-requires : goal.clashes-requires
-clashes-requires c =
-    let step = rw c.loop-d.invariant.same at c.in-Some.ensures.steps.1 in
-    record {
-      stands = c.requires.stands;
-      stands_2 = step.moves.stands;
-      folds = c.requires.folds;
-    }
 
 pub returns-then-clashes : goal.returns-then-clashes
 returns-then-clashes c =

@@ -1,33 +1,15 @@
 -- `pairs_differ` meets its contract. The loop's invariant: all differ where those from c on do, since no entry before them clashes
 -- with one behind it. Assumes nothing.
-use mathlib.Core.Path.{refl, sym, ap, ◌∙◌}
+use mathlib.Core.Path.{sym, ap, ◌∙◌}
 use Rattle.model.specs.Lists.{distinct}
 use Rattle.checks.proofs.Clashes.{all_differ, differ_not, differ_more}
 use Rattle.checks.proofs.pairs.pairs_differ.Goals as goal
-
-pub loop-e-init : goal.loop-e-init
-unfolding all_differ
-loop-e-init c = (c.requires.passes, refl)
-
-pub clashes_behind-requires : goal.clashes_behind-requires
-clashes_behind-requires c =
-    let step = c.in-Some.ensures in
-    record {
-      passes = step.passes;
-      stands = step.moves.stands;
-      folds = c.requires.folds;
-    }
 
 pub returns-then-clashes_behind : goal.returns-then-clashes_behind
 unfolding all_differ
 returns-then-clashes_behind c =
     let step = c.in-Some.ensures in
     sym (c.loop-e.invariant.1 ∙ differ_not step.moves.rest (sym c.clashes_behind.ensures ∙ c.if-clashes_behind.true))
-
-pub loop-e-smaller : goal.loop-e-smaller
-loop-e-smaller c =
-    let step = c.in-Some.ensures in
-    step.moves.less
 
 pub loop-e-preserved : goal.loop-e-preserved
 loop-e-preserved c =

@@ -1,9 +1,8 @@
 -- `insert_all` meets its contract. The loop's invariant: the entries that the iterator has given differ from each other, and they are what
 -- the table holds. Assumes nothing.
 use mathlib.Core.Path.{◌∙◌}
-use native.Mathlib.Omega.{arith}
 use Rattle.checks.specs.Table.{FreeAt}
-use Rattle.checks.proofs.Kept.{found_free, found_met, kept_none, kept_same, kept_more, kept_met, kept_end}
+use Rattle.checks.proofs.Kept.{found_free, found_met, kept_none, kept_same, kept_more, kept_met}
 use Rattle.directory.proofs.Yielded.{begun}
 use Rattle.checks.proofs.table.insert_all.Goals as goal
 
@@ -11,38 +10,6 @@ pub loop-e-init : goal.loop-e-init
 loop-e-init c =
     let at = begun c.into_iter-e-iterator.ensures.into_iter_gives c.entries-e-items.ensures in
     record { same = at.0; kept = rw at.1 (kept_none c.requires.all_free) }
-
-pub probe-requires : goal.probe-requires
-probe-requires c =
-    let step = rw c.loop-e.invariant.same at c.in-Some.ensures.steps.1 in
-    record {
-      stands = step.moves.stands;
-      filled = c.loop-e.invariant.kept.filled;
-      folds = c.requires.folds;
-    }
-
-pub overflow_add-table : goal.overflow_add-table
-overflow_add-table c =
-    let step = rw c.loop-e.invariant.same at c.in-Some.ensures.steps.1 in
-    omega (arith, step.moves.stands)
-
-pub overflow_cast-table : goal.overflow_cast-table
-overflow_cast-table c =
-    let a = c.args in
-    let free : FreeAt a.field a.image.now c.loop-e.table c.in-Some.e c.in-Free.i = found_free _ _ _ _ _ c.probe.ensures _ c.in-Free.is in
-    omega (arith, free)
-
-pub offset_bounds-table-i : goal.offset_bounds-table-i
-offset_bounds-table-i c =
-    let a = c.args in
-    let free : FreeAt a.field a.image.now c.loop-e.table c.in-Some.e c.in-Free.i = found_free _ _ _ _ _ c.probe.ensures _ c.in-Free.is in
-    omega (arith, free)
-
-pub bounds-table-i : goal.bounds-table-i
-bounds-table-i c =
-    let a = c.args in
-    let free : FreeAt a.field a.image.now c.loop-e.table c.in-Some.e c.in-Free.i = found_free _ _ _ _ _ c.probe.ensures _ c.in-Free.is in
-    free.within
 
 pub loop-e-preserved : goal.loop-e-preserved
 loop-e-preserved c =
@@ -59,9 +26,3 @@ pub returns-in-Equal : goal.returns-in-Equal
 returns-in-Equal c =
     let step = rw c.loop-e.invariant.same at c.in-Some.ensures.steps.1 in
     kept_met (kept_same c.loop-e.invariant.kept step.moves.rest) (found_met _ _ _ _ _ c.probe.ensures c.in-Equal.is)
-
-pub returns-in-Full : goal.returns-in-Full
-returns-in-Full c = tt
-
-pub returns : goal.returns
-returns c = kept_end (kept_same c.loop-e.invariant.kept (rw c.loop-e.invariant.same at c.in-None.ensures.steps))

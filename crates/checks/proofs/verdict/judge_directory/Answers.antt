@@ -23,11 +23,6 @@ returns-then-not-t c =
     let tested = sym c.in_ok-t.ensures.tested in
     number_number _ _ _ six (tested ∙ not-true _ c.if-not-t.true)
 
-pub all_differ-requires : goal.all_differ-requires
-all_differ-requires c =
-    let six = c.in_ok-t.ensures.six in
-    record { fits = c.requires; good = six }
-
 pub returns-then-not-all_differ : goal.returns-then-not-all_differ
 returns-then-not-all_differ c =
     let six = c.in_ok-t.ensures.six in
