@@ -1,4 +1,7 @@
 -- Laws of the table: what stands in it while the entries are put there, one after the other.
+use Rattle.checks.specs.Table.{ComparesBoth}
+use Rattle.std.proofs.Common.{Result, Ok, Err}
+use Rattle.checks.specs.declared.Field.TheVariants.{Number, Name}
 use Prim.Native.Nat.{ℕ, ◌+◌, ◌-◌, ◌≤◌, ◌<◌}
 use mathlib.Core.Path.{◌≡◌, refl, sym, ap, ◌∙◌, subst⁻¹}
 use mathlib.Core.Bool.{Bool, true, false}
@@ -13,10 +16,8 @@ use Rattle.model.specs.Bytes.{byte}
 use Rattle.directory.specs.declared.EntryAt.{EntryAt}
 use Rattle.directory.specs.Cursor.{bytes_at, Stands}
 use Rattle.checks.specs.declared.Field.{Field}
-use Rattle.checks.specs.declared.table.Slot.{Slot}
-use Rattle.checks.specs.declared.table.Slot.TheVariants.{Free, Equal}
-use Rattle.checks.specs.declared.table.Compared.{Compared}
-use Rattle.checks.specs.declared.table.Compared.TheVariants.{Differ, Repeated}
+use Rattle.checks.specs.declared.table.NoSlot.{NoSlot}
+use Rattle.checks.specs.declared.table.NoSlot.TheVariants.{Repeated, Full}
 use Rattle.checks.specs.Same.{same_by}
 use Rattle.checks.specs.Table.{home_by, entry_from, Occupied, occupant, AllFree, Filled, Passed, FreeAt, Met, Probed, Compares}
 use Rattle.checks.proofs.Distinct.{Each, none, each_map, each_snoc, each_fails, any_last, any_before, distinct_not, distinct_more}
@@ -46,13 +47,11 @@ module _ (field : Field) (image table e : List ℕ) where
       at j p q (yes r) = subst⁻¹ (λ (k : ℕ). Occupied table k × (same_by field (occupant image table k) e ≡ false)) r (h, d)
       at j p q (no n) = (w.held j p (omega arith), w.differ j p (omega arith))
 
--- what was found, by its case
-module _ (field : Field) (image table : List ℕ) (e : EntryAt) (s : Slot) (h : Probed field image table e s) where
-  pub found_free : (i : ℕ) → s ≡ Free i → FreeAt field image table e i
-  found_free i p = rw p at h
-
-  pub found_met : s ≡ Equal → Met field image table (bytes_at image e)
-  found_met p = rw p at h
+-- what hindered a probe hinders the comparison
+pub hindered : (field : Field) (image table : List ℕ) (e : EntryAt) (es : List (List ℕ)) (why : NoSlot) → Probed field image table e (Err why)
+    → (Met field image table (bytes_at image e) → distinct (same_by field) es ≡ false) → Compares field es (Err why)
+hindered field image table e es Repeated h k = k h
+hindered field image table e es Full h k = tt
 
 -- ---- the table
 
@@ -194,11 +193,13 @@ module _ {field : Field} {image table : List ℕ} (long : length table ≡ 6400)
           let bytes = ap (λ (m : ℕ). bytes_at image (entry_from image (m - 1))) o in
           any_before p k.done (bytes_at image e ∷ []) (k.known j (omega arith) p (ap p (sym bytes) ∙ q))
 
--- ---- what the table tells, by its case
+-- ---- numbers, and then names
 
-module _ (field : Field) (es : List (List ℕ)) (s : Compared) (h : Compares field es s) where
-  pub compared_differ : s ≡ Differ → distinct (same_by field) es ≡ true
-  compared_differ p = rw p at h
+pub both_hindered : (es : List (List ℕ)) (why : NoSlot) → Compares Number es (Err why) → ComparesBoth es (Err why)
+both_hindered es Repeated h = rw h
+both_hindered es Full h = tt
 
-  pub compared_repeated : s ≡ Repeated → distinct (same_by field) es ≡ false
-  compared_repeated p = rw p at h
+pub both_compared : (es : List (List ℕ)) (r : Result Unit NoSlot) → distinct (same_by Number) es ≡ true → Compares Name es r → ComparesBoth es r
+both_compared es (Ok _) n h = rw (n, h)
+both_compared es (Err Repeated) n h = rw (n, h)
+both_compared es (Err Full) n h = tt

@@ -1,5 +1,5 @@
 -- The hash table of the entries compared so far: home slots, and what stands in the slots.
-use Rattle.std.specs.Prelude.{ℕ, ◌+◌, ◌-◌, ◌*◌, ◌/◌, ◌%◌, ◌≤◌, ◌<◌, ◌≡◌, true, false, List, [], ◌∷◌, length, get_or}
+use Rattle.std.specs.Prelude.{Result, Ok, Err, ◌&&◌, ℕ, ◌+◌, ◌-◌, ◌*◌, ◌/◌, ◌%◌, ◌≤◌, ◌<◌, ◌≡◌, true, false, List, [], ◌∷◌, length, get_or}
 use Rattle.model.specs.Bytes.{byte}
 use Rattle.model.specs.Lists.{distinct}
 use Rattle.model.specs.Directory.{number_in, name_in}
@@ -8,10 +8,8 @@ use Rattle.directory.specs.Cursor.{bytes_at, Stands}
 use Rattle.directory.specs.Folding.{folded}
 use Rattle.checks.specs.declared.Field.{Field}
 use Rattle.checks.specs.declared.Field.TheVariants.{Number, Name}
-use Rattle.checks.specs.declared.table.Slot.{Slot}
-use Rattle.checks.specs.declared.table.Slot.TheVariants.{Free, Equal, Full}
-use Rattle.checks.specs.declared.table.Compared.{Compared}
-use Rattle.checks.specs.declared.table.Compared.TheVariants.{Differ, Repeated, Unknown}
+use Rattle.checks.specs.declared.table.NoSlot.{NoSlot}
+use Rattle.checks.specs.declared.table.NoSlot.TheVariants.{Repeated, Full}
 use Rattle.checks.specs.Same.{same_by}
 
 -- a hash of 16 bits
@@ -68,13 +66,19 @@ pub record Met (field : Field) (image table e : List ℕ) : Type 0 where
   pub same : same_by field (occupant image table slot) e ≡ true
 
 -- what the table has for e
-abbrev pub Probed : Field → List ℕ → List ℕ → EntryAt → Slot → Type 0
-Probed field image table e (Free i) = FreeAt field image table e i
-Probed field image table e Equal = Met field image table (bytes_at image e)
-Probed field image table e Full = Unit {0}
+abbrev pub Probed : Field → List ℕ → List ℕ → EntryAt → Result ℕ NoSlot → Type 0
+Probed field image table e (Ok i) = FreeAt field image table e i
+Probed field image table e (Err Repeated) = Met field image table (bytes_at image e)
+Probed field image table e (Err Full) = Unit {0}
 
 -- what the table tells of the entries
-abbrev pub Compares : Field → List (List ℕ) → Compared → Type 0
-Compares field es Differ = distinct (same_by field) es ≡ true
-Compares field es Repeated = distinct (same_by field) es ≡ false
-Compares field es Unknown = Unit {0}
+abbrev pub Compares : Field → List (List ℕ) → Result Unit NoSlot → Type 0
+Compares field es (Ok _) = distinct (same_by field) es ≡ true
+Compares field es (Err Repeated) = distinct (same_by field) es ≡ false
+Compares field es (Err Full) = Unit {0}
+
+-- and of their numbers and names
+abbrev pub ComparesBoth : List (List ℕ) → Result Unit NoSlot → Type 0
+ComparesBoth es (Ok _) = (distinct (same_by Number) es && distinct (same_by Name) es) ≡ true
+ComparesBoth es (Err Repeated) = (distinct (same_by Number) es && distinct (same_by Name) es) ≡ false
+ComparesBoth es (Err Full) = Unit {0}

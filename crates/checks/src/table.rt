@@ -17,24 +17,13 @@ pub const SLOTS: usize = 6400;
 // A slot holds a start below this.
 pub const LIMIT: usize = 0xffff_ffff;
 
-// What the table has for an entry.
-#[derive(Clone, Copy)]
-pub enum Slot {
-    // The free slot for it: no entry of the table is the same.
-    Free(usize),
-    // An entry that is the same.
-    Equal,
-    // No free slot, or a start that no slot can hold. No volume has so many entries, or is so long.
-    Full,
-}
-
-// What the table tells of the entries.
-#[derive(Clone, Copy)]
-pub enum Compared {
-    Differ,
+// Why the table has no slot for an entry.
+#[derive(Clone, Copy, Debug, PartialEq, Eq)]
+pub enum NoSlot {
+    // An entry of the table is the same.
     Repeated,
-    // It has no slot for one of them.
-    Unknown,
+    // No slot is free, or none can hold its start. No volume has so many entries, or is so long.
+    Full,
 }
 
 // The entry that an occupied slot holds.
@@ -56,11 +45,9 @@ fn hash_name(name: &[u8], fold: &[u8; 256]) -> u32
     ensures { result ≡ hashed 0 (folded name.now) }
 {
     let mut h: u32 = 0;
-    let mut i = 0;
-    while i < name.len() {
-        let b = fold[name[i] as usize];
+    for x in name {
+        let b = fold[*x as usize];
         h = (h * 293 + b as u32) % 65536;
-        i += 1;
     }
     h
 }
@@ -88,29 +75,33 @@ fn home(image: &[u8], e: EntryAt, field: Field, fold: &[u8; 256]) -> usize
     }
 }
 
-// What the table has for an entry, from its home slot on.
-fn probe(image: &[u8], table: &[u32; SLOTS], e: EntryAt, field: Field, fold: &[u8; 256]) -> Slot
+// The free slot for an entry, from its home slot on.
+fn probe(
+    image: &[u8],
+    table: &[u32; SLOTS],
+    e: EntryAt,
+    field: Field,
+    fold: &[u8; 256],
+) -> Result<usize, NoSlot>
     requires stands { Stands image.now e }
     requires filled { Filled image.now table.now }
     requires folds { Folds fold.now }
     ensures { Probed field image.now table.now e result }
 {
     if LIMIT <= e.start {
-        return Slot::Full;
+        return Err(NoSlot::Full);
     }
-    let mut i = home(image, e, field, fold);
-    while i < SLOTS {
+    for i in home(image, e, field, fold)..SLOTS {
         let kept = table[i];
         if kept == 0 {
-            return Slot::Free(i);
+            return Ok(i);
         }
         let d = entry_in_slot(image, kept);
         if same(image, d, e, field, fold) {
-            return Slot::Equal;
+            return Err(NoSlot::Repeated);
         }
-        i += 1;
     }
-    Slot::Full
+    Err(NoSlot::Full)
 }
 
 // Whether the entries differ. Each is put into the table as its start and 1, since 0 is a free slot.
@@ -120,26 +111,17 @@ fn insert_all(
     field: Field,
     fold: &[u8; 256],
     table: &mut [u32; SLOTS],
-) -> Compared
+) -> Result<(), NoSlot>
     requires passes { Passes image.now from }
     requires folds { Folds fold.now }
     requires all_free { AllFree table.old }
     ensures { Compares field (rest_of image.now from) result }
 {
     for e in from.entries(image) {
-        match probe(image, table, e, field, fold) {
-            Slot::Free(i) => {
-                table[i] = (e.start + 1) as u32;
-            }
-            Slot::Equal => {
-                return Compared::Repeated;
-            }
-            Slot::Full => {
-                return Compared::Unknown;
-            }
-        }
+        let i = probe(image, table, e, field, fold)?;
+        table[i] = (e.start + 1) as u32;
     }
-    Compared::Differ
+    Ok(())
 }
 
 // A table with every slot free.
@@ -150,7 +132,7 @@ fn empty() -> [u32; SLOTS]
 }
 
 // Whether the entries differ in their file numbers, or in their names.
-pub fn compare_by(image: &[u8], from: Cursor, field: Field, fold: &[u8; 256]) -> Compared
+pub fn compare_by(image: &[u8], from: Cursor, field: Field, fold: &[u8; 256]) -> Result<(), NoSlot>
     requires passes { Passes image.now from }
     requires folds { Folds fold.now }
     ensures { Compares field (rest_of image.now from) result }

@@ -58,12 +58,7 @@ fn claim_all(
 }
 
 // Checks 8 to 10, from the decoded map.
-fn judge_map(
-    image: &[u8],
-    f: VolumeFacts,
-    c: Cursor,
-    entries: &[u16; 642],
-) -> Result<(), Refusal>
+fn judge_map(image: &[u8], f: VolumeFacts, c: Cursor, entries: &[u16; 642]) -> Result<(), Refusal>
     requires { Mapped f image.now c entries.now }
     ensures { done_number result ≡ from8 f (map_entry image.now) (forks_in (rest_of image.now c)) }
 {
