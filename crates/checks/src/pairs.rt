@@ -59,6 +59,7 @@ pub fn pairs_differ(image: &[u8], from: Cursor, fold: &[u8; 256]) -> bool
     requires folds { Folds fold.now }
     ensures { result ≡ (distinct same_numbers (rest_of image.now from) && distinct same_names (rest_of image.now from)) }
 {
+    // By the cursor, since the one behind an entry is where those that it is compared with begin.
     let mut c = from;
     while let Some((e, behind)) = c.advance(image) {
         if clashes_behind(image, behind, e, fold) {

@@ -18,6 +18,7 @@ pub fn read_end(image: &[u8], base: usize) -> usize
         at: 0,
         left: 0,
     };
+    // By the cursor, since its place behind the last entry is what is asked.
     while let Some((_, behind)) = c.advance(image) {
         c = behind;
     }
