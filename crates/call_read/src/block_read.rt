@@ -42,12 +42,5 @@ pub fn serve_read(
         return Err(Refusal::BeyondEnd);
     }
     let start = f.allocation_start;
-    Ok(copy_fork(
-        image,
-        start,
-        f.block_size,
-        g,
-        offset as usize,
-        buffer,
-    ))
+    Ok(copy_fork(image, start, f.block_size, g, offset as usize, buffer))
 }

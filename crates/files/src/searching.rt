@@ -4,9 +4,9 @@ ghost use Rattle.model.specs.Facts.{dir_start, dir_length};
 ghost use Rattle.directory.specs.Cursor.{Begins};
 ghost use Rattle.files.specs.Lookup.{Readable, Names, MayChange, MayChangeFork};
 
+use crate::NamedFork;
 use crate::locks::{file_locked, is_locked};
 use crate::names::bad_name;
-use crate::NamedFork;
 use directory::{Cursor, Found};
 use model::{Fork, Refusal, VolumeFacts};
 

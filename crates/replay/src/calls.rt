@@ -83,11 +83,13 @@ impl<R: Read, W: Write> Record<'_, R, W> {
         let mut space = text::filled::<MOST_NAME>(0);
         let name = input::name(self.reader, &mut space)?;
         match volume::quick_find(self.image, name) {
-            Ok(QuickFound {
-                place,
-                entry,
-                looked,
-            }) => self.print(format_args!("Q 0 {place} {} {looked}", Entry(&entry))),
+            Ok(
+                QuickFound {
+                    place,
+                    entry,
+                    looked,
+                },
+            ) => self.print(format_args!("Q 0 {place} {} {looked}", Entry(&entry))),
             Err(QuickRefusal { refusal, looked }) => match refusal {
                 Refusal::NotFound => self.print(format_args!("Q 13 {looked}")),
                 other => self.print(format_args!("Q {}", other.number())),

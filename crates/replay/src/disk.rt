@@ -10,7 +10,13 @@ pub trait Disk {
 
     fn find(&self, image: &[u8], name: &[u8]) -> Result<FoundFile, Refusal>;
 
-    fn block(&self, image: &[u8], name: &[u8], fork: Fork, place: u64) -> Result<AllocationBlock, Refusal>;
+    fn block(
+        &self,
+        image: &[u8],
+        name: &[u8],
+        fork: Fork,
+        place: u64,
+    ) -> Result<AllocationBlock, Refusal>;
 
     fn read(
         &self,
@@ -40,7 +46,14 @@ pub trait Disk {
         changed: u32,
     ) -> Result<(), Refusal>;
 
-    fn cut(&self, image: &mut [u8], name: &[u8], fork: Fork, size: u64, changed: u32) -> Result<(), Refusal>;
+    fn cut(
+        &self,
+        image: &mut [u8],
+        name: &[u8],
+        fork: Fork,
+        size: u64,
+        changed: u32,
+    ) -> Result<(), Refusal>;
 
     fn delete(&self, image: &mut [u8], name: &[u8]) -> Result<(), Refusal>;
 }
@@ -61,7 +74,13 @@ impl Disk for Bare {
         volume::find(image, name)
     }
 
-    fn block(&self, image: &[u8], name: &[u8], fork: Fork, place: u64) -> Result<AllocationBlock, Refusal> {
+    fn block(
+        &self,
+        image: &[u8],
+        name: &[u8],
+        fork: Fork,
+        place: u64,
+    ) -> Result<AllocationBlock, Refusal> {
         volume::block(image, name, fork, place)
     }
 
@@ -99,7 +118,14 @@ impl Disk for Bare {
         volume::write(image, name, fork, offset, bytes, changed)
     }
 
-    fn cut(&self, image: &mut [u8], name: &[u8], fork: Fork, size: u64, changed: u32) -> Result<(), Refusal> {
+    fn cut(
+        &self,
+        image: &mut [u8],
+        name: &[u8],
+        fork: Fork,
+        size: u64,
+        changed: u32,
+    ) -> Result<(), Refusal> {
         volume::cut(image, name, fork, size, changed)
     }
 
@@ -124,7 +150,13 @@ impl Disk for Wrapped {
         wrapped::find(image, name)
     }
 
-    fn block(&self, image: &[u8], name: &[u8], fork: Fork, place: u64) -> Result<AllocationBlock, Refusal> {
+    fn block(
+        &self,
+        image: &[u8],
+        name: &[u8],
+        fork: Fork,
+        place: u64,
+    ) -> Result<AllocationBlock, Refusal> {
         wrapped::block(image, name, fork, place)
     }
 
@@ -162,7 +194,14 @@ impl Disk for Wrapped {
         wrapped::write(image, name, fork, offset, bytes, changed)
     }
 
-    fn cut(&self, image: &mut [u8], name: &[u8], fork: Fork, size: u64, changed: u32) -> Result<(), Refusal> {
+    fn cut(
+        &self,
+        image: &mut [u8],
+        name: &[u8],
+        fork: Fork,
+        size: u64,
+        changed: u32,
+    ) -> Result<(), Refusal> {
         wrapped::cut(image, name, fork, size, changed)
     }
 

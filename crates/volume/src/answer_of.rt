@@ -113,11 +113,13 @@ impl From<Result<QuickFound, QuickRefusal>> for Outcome {
 
     fn from(answer: Result<QuickFound, QuickRefusal>) -> Outcome {
         match answer {
-            Ok(QuickFound {
-                place,
-                entry,
-                looked,
-            }) => Outcome {
+            Ok(
+                QuickFound {
+                    place,
+                    entry,
+                    looked,
+                },
+            ) => Outcome {
                 place,
                 entry,
                 count: looked as usize,

@@ -11,7 +11,13 @@ use call_write::serve_write;
 use model::{Fork, Refusal};
 
 // Puts in an empty file.
-pub fn create(image: &mut [u8], name: &[u8], finder: &[u8; 16], created: u32, changed: u32) -> Result<(), Refusal>
+pub fn create(
+    image: &mut [u8],
+    name: &[u8],
+    finder: &[u8; 16],
+    created: u32,
+    changed: u32,
+) -> Result<(), Refusal>
     ensures { Does (Call.create name.now finder.now created changed) image.old (told_number result) image.new }
 {
     call_create::whole(finder);
@@ -35,7 +41,13 @@ pub fn write(
 }
 
 // Cuts a fork to its first bytes, as many as the size says.
-pub fn cut(image: &mut [u8], name: &[u8], fork: Fork, size: u64, changed: u32) -> Result<(), Refusal>
+pub fn cut(
+    image: &mut [u8],
+    name: &[u8],
+    fork: Fork,
+    size: u64,
+    changed: u32,
+) -> Result<(), Refusal>
     ensures { Does (Call.cut name.now fork size changed) image.old (told_number result) image.new }
 {
     let facts = check(image)?;

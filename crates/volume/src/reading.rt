@@ -22,12 +22,7 @@ pub fn find(image: &[u8], name: &[u8]) -> Result<FoundFile, Refusal>
 }
 
 // The allocation block at a place in a fork.
-pub fn block(
-    image: &[u8],
-    name: &[u8],
-    fork: Fork,
-    place: u64,
-) -> Result<AllocationBlock, Refusal>
+pub fn block(image: &[u8], name: &[u8], fork: Fork, place: u64) -> Result<AllocationBlock, Refusal>
     ensures { Does (Call.block name.now fork place) image.now (told_block result) image.now }
 {
     serve_block(image, check(image)?, name, fork, place)

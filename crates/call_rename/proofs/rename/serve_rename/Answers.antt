@@ -28,10 +28,10 @@ returns-then-bad_name c =
     (octets _ c.type_inv.name) (octets _ c.type_inv.new) (omega (arith, c.ranges.changed)) in
     let unlocked : is_locked c.args.f ≡ false = sym c.is_locked.ensures ∙ c.if-is_locked.false in
     elim c.then-bad_name.branch [
-      then-bad_name-via-then-bad_name w ↦ rename_untitled c.requires image_octets fits unlocked (sym c.bad_name.ensures ∙ w.if-bad_name.true)
-    | then-bad_name-via-else-bad_name+then-bad_name-2 w ↦
-        rename_unnamed c.requires image_octets fits unlocked (sym c.bad_name.ensures ∙ w.if-bad_name.false)
-        (sym w.bad_name-else-bad_name.ensures ∙ w.if-bad_name-2.true)
+      | then-bad_name-via-then-bad_name w ↦ rename_untitled c.requires image_octets fits unlocked (sym c.bad_name.ensures ∙ w.if-bad_name.true)
+      | then-bad_name-via-else-bad_name+then-bad_name-2 w ↦
+          rename_unnamed c.requires image_octets fits unlocked (sym c.bad_name.ensures ∙ w.if-bad_name.false)
+          (sym w.bad_name-else-bad_name.ensures ∙ w.if-bad_name-2.true)
     ]
 
 pub returns-then-too_long : goal.returns-then-too_long
