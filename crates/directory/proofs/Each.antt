@@ -12,9 +12,6 @@ use Rattle.directory.specs.declared.BadEntry.{BadEntry}
 use Rattle.directory.specs.Cursor.{rest_of, Passes, Moves, Fails, Stepped, Advanced}
 use Rattle.std.specs.Prelude.{Option, Some, None, Result, Ok, Err, IsOk}
 
-pub differs : true ≡ false → ⊥
-differs h = so_not true h refl
-
 -- ---- check 6
 
 pub six_none : {es : List (List ℕ)} → es ≡ [] → fires6 es ≡ false
