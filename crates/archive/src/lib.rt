@@ -1,5 +1,5 @@
 // The calls for programs in C and other languages: each is the call of `volume` or of `wrapped`, with a number for the fork.
-// include/mfs.h declares them.
+// include/mfs.h declares them. C calls each by its name, so each is a function of its own, however alike.
 #![tactic(auto)]
 
 ghost use Rattle.std.specs.Prelude.{◌≡◌};
@@ -17,7 +17,7 @@ pub use wrapped_files::{
     mfs_wrapped_delete, mfs_wrapped_entry, mfs_wrapped_find, mfs_wrapped_read, mfs_wrapped_write,
 };
 
-// The fork of a number: 0 is the data fork, every other number the resource fork.
+// The fork of a number: 0 is the data fork, every other number the resource fork. No number is refused, as C's interface says.
 fn fork_numbered(number: u8) -> Fork
     ensures { result ≡ fork_numbered number }
 {

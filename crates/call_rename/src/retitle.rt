@@ -9,8 +9,8 @@ use directory::{EntryAt, entry_size};
 use files::first_entry;
 use model::{Refusal, VolumeFacts};
 
-// 18, or 0 and the entry has the name and the change date: it stays where the padded size is equal, and else goes into the first
-// directory block that has room once it is out.
+// Gives the entry the name and the change date: it stays where the padded size is equal, and else goes into the first directory block
+// that has room once it is out. Where none has, 18 and nothing is changed.
 pub fn rename_file(
     image: &mut [u8],
     f: VolumeFacts,

@@ -12,7 +12,7 @@ mod verdict;
 pub use limits::{bad_length, judge_facts};
 pub use verdict::judge;
 
-// What is compared of two entries.
+// What is compared of two entries. It is an enum and no closure: `same_by` and `home_by`, by which the table is stated, go by it.
 #[derive(Clone, Copy)]
 pub enum Field {
     Number,

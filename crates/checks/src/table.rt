@@ -1,6 +1,6 @@
 // The search for entries with the same file number or equal names, by a hash table with open addressing. An entry stands in its
 // home slot, which its number or its name gives, or behind it with no free slot between. So it is enough to compare an entry
-// with those from its home slot to the next free one.
+// with those from its home slot to the next free one. It is a table in fixed memory and no HashMap, since the library has no heap.
 ghost use Rattle.std.specs.Prelude.{◌≡◌, ◌-◌, ◌≤◌};
 ghost use Rattle.directory.specs.Cursor.{rest_of, bytes_at, Stands, Passes};
 ghost use Rattle.directory.specs.Folding.{folded, Folds};

@@ -7,7 +7,7 @@ use Rattle.model.specs.Directory.{named}
 use Rattle.model.specs.Quick.{quick_listing, looked_at}
 use Rattle.directory.specs.declared.EntryAt.{EntryAt}
 use Rattle.directory.specs.declared.Found.{Found}
-use Rattle.directory.specs.declared.QuickFound.{QuickFound}
+use Rattle.directory.specs.declared.QuickEntry.{QuickEntry}
 use Rattle.directory.specs.declared.Cursor.{Cursor}
 use Rattle.directory.specs.Cursor.{bytes_at, Stands, Comes, Lies}
 
@@ -46,6 +46,6 @@ Searched image name es (Break f) = FirstNamed image name es f.place f.entry
 Searched image name es (Continue count) = (any (named name) es ≡ false) × (count ≡ length es)
 
 -- of the directory blocks bs, with the number of them looked at
-abbrev pub QuickFinds : List ℕ → List ℕ → List (List ℕ) → Option QuickFound → Type 0
+abbrev pub QuickFinds : List ℕ → List ℕ → List (List ℕ) → Option QuickEntry → Type 0
 QuickFinds image name bs (Some f) = FirstNamed image name (quick_listing bs) f.place f.entry × (f.looked ≡ looked_at name bs)
 QuickFinds image name bs None = any (named name) (quick_listing bs) ≡ false

@@ -63,7 +63,7 @@ pub struct Found {
 
 // An entry found in the directory blocks, one after another: its place is among those read.
 #[derive(Clone, Copy)]
-pub struct QuickFound {
+pub struct QuickEntry {
     pub place: usize,
     pub entry: EntryAt,
     // Blocks looked at.

@@ -10,7 +10,7 @@ ghost use Rattle.directory.specs.Search.{Searched, QuickFinds};
 
 use crate::folds::fold_table;
 use crate::search::has_name;
-use crate::{Cursor, Found, QuickFound};
+use crate::{Cursor, Found, QuickEntry};
 use std::ops::ControlFlow;
 
 // The first entry of the name from the cursor on, up to one that check 6 would refuse. It is given a cursor with no block behind its own.
@@ -25,6 +25,7 @@ fn search_block(
     requires folds { Folds fold.now }
     ensures { Searched image.now name.now (leading good_entry (rest_of image.now from)) result }
 {
+    // Counted by hand: behind the last entry the count is wanted too.
     let mut c = from;
     let mut place: usize = 0;
     // An entry that check 6 would refuse ends the reading as no entry does.
@@ -39,7 +40,7 @@ fn search_block(
 }
 
 // The first entry of the name in the blocks from the start of the cursor's own on; no block behind the one that has it is read.
-pub fn quick_locate(image: &[u8], from: Cursor, name: &[u8]) -> Option<QuickFound>
+pub fn quick_locate(image: &[u8], from: Cursor, name: &[u8]) -> Option<QuickEntry>
     requires { CursorFits image.now from }
     ensures { QuickFinds image.now name.now (cut_blocks (from.left + 1) (drop from.base image.now)) result }
 {
@@ -54,7 +55,7 @@ pub fn quick_locate(image: &[u8], from: Cursor, name: &[u8]) -> Option<QuickFoun
         };
         match search_block(image, block, name, &fold) {
             ControlFlow::Break(found) => {
-                return Some(QuickFound {
+                return Some(QuickEntry {
                     place: place + found.place,
                     entry: found.entry,
                     looked: looked + 1,

@@ -64,7 +64,8 @@ impl Cursor {
         ))
     }
 
-    // The next entry, in this block or in one behind it, with the cursor moved past it.
+    // The next entry, in this block or in one behind it, with the cursor moved past it: document 01's form of the reading, a cursor by
+    // value.
     pub fn next(self, image: &[u8]) -> Result<Option<(EntryAt, Cursor)>, BadEntry>
         requires { CursorFits image.now self }
         ensures { Stepped image.now self result }

@@ -1,4 +1,5 @@
-// The three numbers of the volume that change: files, next file number, free blocks.
+// The three numbers of the volume that change: files, next file number, free blocks. Each function is one definition of the model
+// (with_files, with_next, with_free), which one function with the place for a parameter would not name.
 ghost use Rattle.std.specs.Prelude.{◌≡◌, ◌≤◌, length};
 ghost use Rattle.model.specs.Calls.{with_files, with_next, with_free};
 

@@ -41,6 +41,6 @@ told_quick_find (Ok found) =
     record { number = 0; facts = no_facts; place = found.place; entry = found.entry; block = record { 0 = 0 }; count = found.looked; buffer = [] }
 told_quick_find (Err refused) = counted (number_of refused.refusal) refused.looked []
 
--- the calls that change the image give back their number alone
+-- the calls that change the image tell nothing but whether they are refused
 abbrev pub told_number : Result Unit Refusal → Answer
 told_number done = only (done_number done) []

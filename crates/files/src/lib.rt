@@ -1,5 +1,5 @@
-// Names given to a call. A named file of an accepted volume: found, its locks, and whether it or a fork of it may be changed. The
-// answers of the calls, and the zeros that a refusal gives.
+// Names given to a call. A named file of an accepted volume: found, its locks, and whether it or a fork of it may be changed. What
+// find and quick find tell, and the zeros beside a refusal's number.
 #![tactic(auto)]
 
 ghost use Rattle.std.specs.Prelude.{◌≡◌};

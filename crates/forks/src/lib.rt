@@ -1,4 +1,5 @@
-// The bytes of a fork, block by block, the blocks that it needs and those that a write takes.
+// The bytes of a fork, block by block, the blocks that it needs and those that a write takes. S and A go as two parameters: the model's
+// `block_byte` and `fork_bytes`, by which all is stated, take them so.
 #![tactic(auto)]
 
 mod content;

@@ -15,7 +15,7 @@ pub fn fewest_blocks(n: u32, a: u32) -> u32
     n.div_ceil(a)
 }
 
-// The new blocks that a write of count bytes at the offset needs, or 17 where they exceed those free. So many bytes that the sum of
+// The new blocks that a write of count bytes at the offset needs; 17 where they exceed those free. So many bytes that the sum of
 // offset and count would wrap fit on no volume.
 pub fn needed_blocks(
     f: VolumeFacts,

@@ -29,7 +29,7 @@ pub struct AllocationBlock(pub u16);
 #[derive(Clone, Copy, Debug, PartialEq, Eq)]
 pub struct LogicalBlock(pub u32);
 
-// The facts of the volume information.
+// The facts of the volume information. C has this struct too, so the name has fixed room, and its length stands beside it.
 #[repr(C)]
 #[derive(Clone, Copy)]
 pub struct VolumeFacts {
@@ -90,7 +90,7 @@ pub struct ForkFacts {
     pub physical: u32,
 }
 
-// A directory entry, its name zero behind its length.
+// A directory entry, its name zero behind its length. C has this struct too, so the name has fixed room.
 #[repr(C)]
 #[derive(Clone, Copy)]
 pub struct DirectoryEntry {

@@ -1,4 +1,4 @@
-// Big-endian numbers, read from bytes.
+// Big-endian numbers, read from bytes: two functions of a line, where a trait over both widths would be longer.
 ghost use Rattle.std.specs.Prelude.{◌≡◌, ◌+◌, ◌<◌, length};
 ghost use Rattle.model.specs.Bytes.{be16, be32};
 

@@ -1,4 +1,4 @@
-// check: the number of the first check that fires, or the volume's facts.
+// check: refused by the first check that fires, or the volume's facts.
 ghost use Rattle.model.specs.Calls.{Call, Does};
 ghost use Rattle.files.specs.Told.{told_check};
 

@@ -18,7 +18,8 @@ pub use quick::quick_find;
 pub use reading::{block, entry, find, read};
 pub use wrapping::wrap;
 
-// What any call gives back: what its answer does not tell is zero. The count is read's, or quick find's of directory blocks.
+// What any call gives back: what its answer does not tell is zero. The claim on every list of calls speaks of such answers (`Happens`),
+// so it is a struct with a number and no enum. The count is read's, or quick find's of directory blocks.
 #[derive(Clone, Copy)]
 pub struct Outcome {
     pub number: u8,

@@ -10,7 +10,7 @@ use crate::{Outcome, Wanted};
 use model::Fork;
 
 // Makes the call that is wanted with what it needs of all this, and gives back what that call gives. A rename takes the bytes for the
-// new name.
+// new name. Its parameters are those of `call_of`, by which the claim names a call.
 pub fn make_call(
     image: &mut [u8],
     wanted: Wanted,

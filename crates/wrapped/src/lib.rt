@@ -1,5 +1,6 @@
 // The nine calls on a wrapped file: each checks the container itself, then serves the data inside in place. `make_call` ties them
-// to the claim on every list of calls on wrapped files.
+// to the claim on every list of calls on wrapped files. The calls are named as those of `volume`, and both stand: what is stated of
+// these is `DoesWrapped`, of another list of bytes.
 #![tactic(auto)]
 
 mod changing;
