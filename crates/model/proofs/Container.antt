@@ -1,7 +1,7 @@
 -- Laws of refusals 22 to 24: each fires not exactly where what it asks for holds; and how long a new header is.
 use Prim.Native.Nat.{ℕ, ◌+◌, ◌-◌, ◌≤◌, ◌<◌}
-use mathlib.Core.Path.{◌≡◌, refl, sym, ap, ◌∙◌}
-use mathlib.Core.Bool.{Bool, true, false, not, ◌||◌}
+use mathlib.Core.Path.{◌≡◌, sym, ap, ◌∙◌}
+use mathlib.Core.Bool.{true, false, not, ◌||◌}
 use mathlib.Core.List.{List, ◌++◌}
 use mathlib.Core.Logic.{◌⊎◌, inl, inr, ⊎_elim}
 use native.Mathlib.Omega.{arith}
@@ -80,36 +80,12 @@ module _ (file : List ℕ) where
       sym (mark_left (size_passes (length file) (tag_size file) s.few s.long) s.titled s.whole s.encoded)
       ∙ ap not (eq-eqb (be16 file 82) 256 s.marked)
 
-  -- it fires where something of the header fails, or the lengths alone
-  pub header_fires : (SoundHeader file → ⊥) → true ≡ fires22 file
-  header_fires z = go (fires22 file) refl
-    where
-      go : (t : Bool) → fires22 file ≡ t → true ≡ t
-      go true h = refl
-      go false h = absurd (z (header h))
-
-  pub size_fires : bad_size (length file) (tag_size file) ≡ true → true ≡ fires22 file
-  unfolding fires22
-  size_fires h = rw h
-
   pub header_room : fires22 file ≡ false → 409684 ≤ length file
   header_room h = omega (arith, (header h).long)
 
   -- ---- 22 to 24
 
-  pub by_22 : fires22 file ≡ true → 22 ≡ container_verdict file
-  unfolding container_verdict
-  by_22 h = rw h
-
-  pub by_23 : fires22 file ≡ false → (data_sum file ≡ checksum (inside file) → ⊥) → 23 ≡ container_verdict file
-  unfolding container_verdict fires23
-  by_23 h d = rw (h, ne_eqb (data_sum file) (checksum (inside file)) d)
-
   module _ (h : fires22 file ≡ false) (d : data_sum file ≡ checksum (inside file)) where
-    pub by_24 : (tag_sum file ≡ tag_checksum (tags file) → ⊥) → 24 ≡ container_verdict file
-    unfolding container_verdict fires23 fires24
-    by_24 t = rw (h, eq-eqb (data_sum file) (checksum (inside file)) d, ne_eqb (tag_sum file) (tag_checksum (tags file)) t)
-
     pub by_none : tag_sum file ≡ tag_checksum (tags file) → 0 ≡ container_verdict file
     unfolding container_verdict fires23 fires24
     by_none t = rw (h, eq-eqb (data_sum file) (checksum (inside file)) d, eq-eqb (tag_sum file) (tag_checksum (tags file)) t)

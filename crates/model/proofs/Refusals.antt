@@ -1,5 +1,4 @@
 -- Laws of the refusals' numbers.
-use Prim.Native.Nat.{ℕ}
 use mathlib.Core.Path.{◌≡◌}
 use native.Mathlib.Omega.{arith}
 use Rattle.model.specs.Refusals.{number_of}
