@@ -10,7 +10,7 @@ use Rattle.model.specs.Calls.{Fits, bad_name}
 use Rattle.model.specs.Calls.Call.{create}
 use Rattle.call_create.specs.Adding.{Adds}
 use Rattle.files.proofs.Octets.{octets}
-use Rattle.files.proofs.Lookups.{some_block, first_passes}
+use Rattle.files.proofs.Lookups.{first_passes}
 use Rattle.call_create.proofs.Creates.{adds, Short, Fresh, fresh, fresh_title}
 use Rattle.call_create.proofs.Creates.{create_locked, create_untitled, create_long, create_exists, create_last, create_full, create_served}
 use Rattle.call_create.proofs.create.serve_create.Goals as goal
@@ -73,9 +73,6 @@ returns-then-f-eq-LAST_NUMBER c =
     let short : Short c.args.name.now = record { good = good; short = sym c.too_long.ensures ∙ c.if-too_long.false } in
     let new : Fresh c.args.image.now c.args.name.now = fresh short c.lookup.result c.lookup.ensures (sym c.is_ok.ensures.value ∙ c.if-is_ok.false) in
     create_last c.requires image_octets fits unlocked new c.if-f-eq-LAST_NUMBER.true
-
-pub first_entry-requires : goal.first_entry-requires
-first_entry-requires c = some_block c.requires
 
 pub entry_size-requires : goal.entry_size-requires
 entry_size-requires c =

@@ -5,20 +5,9 @@ use Rattle.model.specs.Bytes.{Bytes}
 use Rattle.model.specs.Calls.{Fits}
 use Rattle.model.specs.Calls.Call.{cut}
 use Rattle.files.proofs.Octets.{octets}
-use Rattle.files.proofs.Refusing.{cut_changing, changed_fork_at, refused}
+use Rattle.files.proofs.Refusing.{cut_changing, refused}
 use Rattle.call_cut.proofs.Cuts.{cut_fits, cut_served}
 use Rattle.call_cut.proofs.cut.serve_cut.Goals as goal
-
-pub overflow_cast-size : goal.overflow_cast-size
-overflow_cast-size c =
-    omega (arith, c.in_ok-named.ensures.within)
-
-pub shorten_fork-requires : goal.shorten_fork-requires
-shorten_fork-requires c =
-    record {
-      fork_at = changed_fork_at c.requires c.in_ok-named.ensures;
-      size_le_logical = c.in_ok-named.ensures.within;
-    }
 
 pub returns-in_err-named : goal.returns-in_err-named
 returns-in_err-named c =

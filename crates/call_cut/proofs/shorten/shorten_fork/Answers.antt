@@ -6,23 +6,17 @@ use lib.ListN.{take}
 use Rattle.model.specs.Lists.{first_or0}
 use Rattle.model.specs.Map.{map_entry, chain_blocks}
 use Rattle.model.specs.Directory.{block_count}
-use Rattle.files.proofs.Forks.{large_block, long_image}
+use Rattle.files.proofs.Forks.{long_image}
 use Rattle.files.proofs.Owned.{few, fork_runs}
 use Rattle.call_cut.proofs.Kept.{no_start, same_start, has_most, keeps_within, keeps_small, free_small, cut_stands, cut_leaves}
 use Rattle.call_cut.proofs.shorten.shorten_fork.Goals as goal
 use Rattle.call_cut.proofs.shorten.shorten_fork.Goals.{then-keep-eq0, else-keep-eq0}
-
-pub block_count-has-requires : goal.block_count-has-requires
-block_count-has-requires c = large_block c.requires.fork_at.held.readable
 
 pub overflow_cast-has : goal.overflow_cast-has
 unfolding block_count
 overflow_cast-has c =
     let has_is : c.block_count-has.result ≡ c.args.g.physical / c.args.f.block_size = c.block_count-has.ensures in
     omega (arith, has_is, has_most c.requires.fork_at)
-
-pub fewest_blocks-keep-requires : goal.fewest_blocks-keep-requires
-fewest_blocks-keep-requires c = large_block c.requires.fork_at.held.readable
 
 pub overflow_cast-keep : goal.overflow_cast-keep
 unfolding block_count
@@ -58,9 +52,6 @@ unfolding block_count
 overflow_add-f c =
     let has_is : c.block_count-has.result ≡ c.args.g.physical / c.args.f.block_size = c.block_count-has.ensures in
     omega (arith, has_is, c.fewest_blocks-keep.ensures, free_small c.requires.fork_at c.args.size c.requires.size_le_logical)
-
-pub put_free-requires : goal.put_free-requires
-put_free-requires c = omega (arith, c.store_fork.auto.image, c.shorten.auto.image, long_image c.requires.fork_at.held.readable)
 
 pub returns : goal.returns
 unfolding block_count

@@ -8,10 +8,6 @@ use Rattle.files.proofs.Refusing.{delete_changing, refused}
 use Rattle.call_delete.proofs.Deletes.{delete_fits, delete_served}
 use Rattle.call_delete.proofs.delete.serve_delete.Goals as goal
 
-pub take_file-requires : goal.take_file-requires
-take_file-requires c =
-    record { readable = c.requires; name = c.args.name.now; place = _; found = c.in_ok-named.ensures.found }
-
 pub returns-in_err-named : goal.returns-in_err-named
 returns-in_err-named c =
     let image_bytes : Bytes c.args.image.now = octets _ c.slice_known-1.given in

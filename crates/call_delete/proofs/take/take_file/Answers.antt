@@ -1,6 +1,6 @@
 -- `take_file` meets its contract. Assumes nothing.
 use Prim.Native.Nat.{ℕ, ◌+◌, ◌/◌, ◌≤◌}
-use mathlib.Core.Path.{◌≡◌, ◌∙◌}
+use mathlib.Core.Path.{◌≡◌}
 use native.Mathlib.Omega.{arith}
 use mir.Syntax.{w16}
 use mir.Val.{Fits}
@@ -8,12 +8,13 @@ use Rattle.model.specs.Facts.{A, free_count}
 use Rattle.model.specs.Map.{map_entry, chain_blocks, put_free}
 use Rattle.model.specs.Directory.{block_count}
 use Rattle.model.specs.declared.Fork.TheVariants.{Data}
-use Rattle.files.proofs.Forks.{large_block, long_image}
+use Rattle.files.proofs.Forks.{long_image}
 use Rattle.files.proofs.Owned.{few, some_file, fork_runs}
 use Rattle.call_delete.proofs.Freed.{both_small, resource_runs, delete_block, delete_stands, delete_lies, delete_leaves}
 use Rattle.call_delete.proofs.take.take_file.Goals as goal
 
 -- sizes that fit: p free blocks, q and r of the forks
+
 data_fits : (p q r : ℕ) → p + q + r ≤ 640 → Fits w16 q
 data_fits p q r h = omega arith
 
@@ -29,12 +30,6 @@ all_fit p q r h = omega arith
 still_long : (n m : ℕ) → n ≡ m → 2048 ≤ m → 2048 ≤ n
 still_long n m e h = omega arith
 
-long : (n m : ℕ) → n ≡ m → 2048 ≤ m → 1088 ≤ n
-long n m e h = omega arith
-
-pub block_count-in_data-requires : goal.block_count-in_data-requires
-block_count-in_data-requires c = large_block c.requires.readable
-
 pub overflow_cast-in_data : goal.overflow_cast-in_data
 unfolding block_count
 overflow_cast-in_data c =
@@ -42,9 +37,6 @@ overflow_cast-in_data c =
     ≤ 640 = both_small c.requires c.read_fork-data.result c.read_fork-resource.result c.read_fork-data.ensures c.read_fork-resource.ensures in
     let data_is : c.block_count-in_data.result ≡ c.read_fork-data.result.physical / A c.args.f = c.block_count-in_data.ensures in
     rw data_is (data_fits _ _ _ small)
-
-pub block_count-in_resource-requires : goal.block_count-in_resource-requires
-block_count-in_resource-requires c = large_block c.requires.readable
 
 pub overflow_cast-in_resource : goal.overflow_cast-in_resource
 unfolding block_count
@@ -97,11 +89,6 @@ remove_entry-requires c =
 pub overflow_sub-f : goal.overflow_sub-f
 overflow_sub-f c = some_file c.requires
 
-pub put_files-requires : goal.put_files-requires
-put_files-requires c =
-    long _ _ (c.remove_entry.auto.image ∙ c.free_chain-2.auto.image ∙ c.free_chain.auto.image)
-    (long_image c.requires.readable)
-
 pub overflow_add-f : goal.overflow_add-f
 unfolding block_count
 overflow_add-f c =
@@ -121,16 +108,6 @@ overflow_add-f-2 c =
     free_count f + c.block_count-in_data.result + c.block_count-in_resource.result
     ≡ free_count f + c.read_fork-data.result.physical / A f + c.read_fork-resource.result.physical / A f = λ i. free_count c.args.f + data_is i + resource_is i in
     rw free_is (all_fit _ _ _ small)
-
-pub put_free-requires : goal.put_free-requires
-put_free-requires c =
-    long _ _ (c.put_files.auto.image ∙ c.remove_entry.auto.image ∙ c.free_chain-2.auto.image ∙ c.free_chain.auto.image)
-    (long_image c.requires.readable)
-
-pub shape_of-image : goal.shape_of-image
-shape_of-image c =
-    c.put_free.auto.image ∙ c.put_files.auto.image ∙ c.remove_entry.auto.image ∙ c.free_chain-2.auto.image
-    ∙ c.free_chain.auto.image
 
 pub returns : goal.returns
 unfolding block_count

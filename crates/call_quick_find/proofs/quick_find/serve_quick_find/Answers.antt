@@ -7,7 +7,7 @@ use Rattle.model.specs.Bytes.{Bytes}
 use Rattle.model.specs.Calls.{bad_name}
 use Rattle.files.specs.Told.{told_quick_find}
 use Rattle.files.proofs.Octets.{octets}
-use Rattle.call_quick_find.proofs.Returns.{blocks_are, fits, some_block, few_looked, untitled, missed, served}
+use Rattle.call_quick_find.proofs.Returns.{blocks_are, few_looked, untitled, missed, served}
 use Rattle.call_quick_find.proofs.quick_find.serve_quick_find.Goals as goal
 
 pub returns-then-bad_name : goal.returns-then-bad_name
@@ -15,17 +15,6 @@ returns-then-bad_name c =
     let image_bytes : Bytes c.args.image.now = octets _ c.type_inv.image in
     let letters : Bytes c.args.name.now = octets _ c.type_inv.name in
     untitled c.requires image_bytes letters (ap (λ q. told_quick_find (Err q)) c.from.ensures) (sym c.bad_name.ensures ∙ c.if-bad_name.true)
-
-pub first_entry-requires : goal.first_entry-requires
-first_entry-requires c = some_block c.requires
-
-pub quick_locate-requires : goal.quick_locate-requires
-quick_locate-requires c = fits c.requires c.first_entry.ensures
-
-pub read_entry-requires : goal.read_entry-requires
-read_entry-requires c =
-    let found = rw (blocks_are c.requires c.first_entry.ensures) at c.in-Some.ensures in
-    found.0.stands
 
 pub overflow_cast-result : goal.overflow_cast-result
 overflow_cast-result c =

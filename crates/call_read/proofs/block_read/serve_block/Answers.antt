@@ -6,7 +6,7 @@ use Rattle.model.specs.Facts.{A}
 use Rattle.model.specs.Bytes.{Bytes}
 use Rattle.model.specs.Directory.{block_count}
 use Rattle.files.proofs.Octets.{octets}
-use Rattle.files.proofs.Forks.{few_blocks, has_place, large_block, long_image}
+use Rattle.files.proofs.Forks.{few_blocks, has_place, long_image}
 use Rattle.files.proofs.Replies.{block_refused, block_beyond, block_served}
 use Rattle.call_read.proofs.block_read.serve_block.Goals as goal
 
@@ -16,12 +16,6 @@ returns-in_err-named c =
     let letters : Bytes c.args.name.now = octets _ c.type_inv.name in
     let p = err_from_is_err_and c.from_residual.result c.from_residual.ensures.1 in
     rw (p.1, p.2) (block_refused c.requires image_bytes letters (omega arith) _ c.in_err-named.ensures)
-
-pub read_fork-g-requires : goal.read_fork-g-requires
-read_fork-g-requires c = c.in_ok-named.ensures.there.stands
-
-pub block_count-requires : goal.block_count-requires
-block_count-requires c = large_block c.requires
 
 pub returns-then-block_count-place : goal.returns-then-block_count-place
 unfolding block_count

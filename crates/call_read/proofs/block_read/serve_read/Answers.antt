@@ -17,9 +17,6 @@ returns-in_err-named c =
     let p = err_from_is_err_and c.from_residual.result c.from_residual.ensures.1 in
     rw (p.1, p.2) (read_refused c.requires image_bytes letters fits room _ c.in_err-named.ensures)
 
-pub read_fork-g-requires : goal.read_fork-g-requires
-read_fork-g-requires c = c.in_ok-named.ensures.there.stands
-
 pub returns-then-g-offset : goal.returns-then-g-offset
 returns-then-g-offset c =
     let image_bytes : Bytes c.args.image.now = octets _ c.type_inv.image in

@@ -2,20 +2,12 @@
 use native.Mathlib.Omega.{arith}
 use Rattle.model.specs.Bytes.{Bytes}
 use Rattle.files.proofs.Octets.{octets}
-use Rattle.files.proofs.Lookups.{some_block, first_passes, first_rest}
+use Rattle.files.proofs.Lookups.{first_passes, first_rest}
 use Rattle.files.proofs.Replies.{entry_refused, entry_served}
 use Rattle.call_read.proofs.entry_find.serve_entry.Goals as goal
 
-pub first_entry-requires : goal.first_entry-requires
-first_entry-requires c = some_block c.requires
-
 pub entry_at-requires : goal.entry_at-requires
 entry_at-requires c = first_passes c.requires c.first_entry.ensures
-
-pub read_entry-requires : goal.read_entry-requires
-read_entry-requires c =
-    let there = rw (first_rest c.requires c.first_entry.ensures) at c.in-Some.ensures in
-    there.stands
 
 pub returns-in-Some : goal.returns-in-Some
 returns-in-Some c =

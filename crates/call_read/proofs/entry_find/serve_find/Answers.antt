@@ -12,9 +12,6 @@ returns-in_err-named c =
     let p = err_from_is_err_and c.from_residual.result c.from_residual.ensures.1 in
     rw (p.1, p.2) (find_refused c.requires image_bytes letters _ c.in_err-named.ensures)
 
-pub read_entry-requires : goal.read_entry-requires
-read_entry-requires c = c.in_ok-named.ensures.there.stands
-
 pub returns : goal.returns
 returns c =
     let image_bytes : Bytes c.args.image.now = octets _ c.type_inv.image in

@@ -44,22 +44,6 @@ returns-then-too_long c =
     let good : bad_name c.args.new.now ≡ false = sym c.bad_name-else-bad_name.ensures ∙ c.if-bad_name-2.false in
     rename_long c.requires image_octets fits unlocked old good (sym c.too_long.ensures ∙ c.if-too_long.true)
 
-pub names_another-requires : goal.names_another-requires
-names_another-requires c =
-    let unlocked : is_locked c.args.f ≡ false = sym c.is_locked.ensures ∙ c.if-is_locked.false in
-    let old : bad_name c.args.name.now ≡ false = sym c.bad_name.ensures ∙ c.if-bad_name.false in
-    let good : bad_name c.args.new.now ≡ false = sym c.bad_name-else-bad_name.ensures ∙ c.if-bad_name-2.false in
-    let passed : let a = c.args in Passed a.f a.name.now a.new.now = record {
-      unlocked = unlocked;
-      old = old;
-      good = good;
-      short = sym c.too_long.ensures ∙ c.if-too_long.false;
-    } in
-    record {
-      readable = c.requires;
-      value = (passed).good;
-    }
-
 pub returns-then-names_another : goal.returns-then-names_another
 returns-then-names_another c =
     let image_octets : Bytes c.args.image.now = octets _ c.slice_known-1.given in
@@ -75,23 +59,6 @@ returns-then-names_another c =
       short = sym c.too_long.ensures ∙ c.if-too_long.false;
     } in
     rename_another c.requires image_octets passed fits c.in_ok-named.ensures (sym c.if-names_another.true ∙ c.names_another.ensures _ _ c.in_ok-named.ensures.found)
-
-pub rename_file-requires : goal.rename_file-requires
-rename_file-requires c =
-    let unlocked : is_locked c.args.f ≡ false = sym c.is_locked.ensures ∙ c.if-is_locked.false in
-    let old : bad_name c.args.name.now ≡ false = sym c.bad_name.ensures ∙ c.if-bad_name.false in
-    let good : bad_name c.args.new.now ≡ false = sym c.bad_name-else-bad_name.ensures ∙ c.if-bad_name-2.false in
-    let passed : let a = c.args in Passed a.f a.name.now a.new.now = record {
-      unlocked = unlocked;
-      old = old;
-      good = good;
-      short = sym c.too_long.ensures ∙ c.if-too_long.false;
-    } in
-    let held : let a = c.args in FileAt a.f a.image.now c.in_ok-named.named.entry = record { readable = c.requires; name = c.args.name.now; place = _; found = c.in_ok-named.ensures.found } in
-    record {
-      file_at = held;
-      value = (passed).good;
-    }
 
 pub returns-in_err-named : goal.returns-in_err-named
 returns-in_err-named c =

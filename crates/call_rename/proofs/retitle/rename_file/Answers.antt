@@ -6,7 +6,7 @@ use lib.ListN.{length}
 use Rattle.model.specs.Directory.{padded, size_for}
 use Rattle.laws.proofs.Refusals.{GoodName, good_name}
 use Rattle.laws.proofs.DirectorySteps.{based_self}
-use Rattle.files.proofs.Lookups.{some_block, first_passes}
+use Rattle.files.proofs.Lookups.{first_passes}
 use Rattle.files.proofs.Elsewhere.{held_block, held_lies}
 use Rattle.call_rename.proofs.Leaving.{entry_inside, lies_from, out, taken_out, stays, stuck, kept_block, kept_behind, moves}
 use Rattle.call_rename.proofs.retitle.rename_file.Goals as goal
@@ -35,9 +35,6 @@ pub returns-then-size-entry_size : goal.returns-then-size-entry_size
 returns-then-size-entry_size c h =
     let same : let a = c.args in size_for (length a.new.now) ≡ size_for a.e.name_length = sym c.entry_size-size.ensures ∙ c.if-size-entry_size.true ∙ c.entry_size.ensures in
     stays h c.args.new.now c.requires.value c.args.changed same _ c.rename_entry.ensures
-
-pub first_entry-requires : goal.first_entry-requires
-first_entry-requires c = some_block c.requires.file_at.readable
 
 pub find_room_without-requires : goal.find_room_without-requires
 find_room_without-requires c =

@@ -1,8 +1,8 @@
 -- `grow_fork` meets its contract. Assumes nothing.
 use Prim.Native.Nat.{ℕ, ◌+◌, ◌*◌, ◌/◌, ◌≤◌, max}
-use mathlib.Core.Path.{◌≡◌, ap, ◌∙◌}
+use mathlib.Core.Path.{◌≡◌, ap}
 use native.Mathlib.Omega.{arith}
-use mir.Syntax.{w16, w32, w64}
+use mir.Syntax.{w16, w32}
 use mir.Val.{Fits}
 use lib.ListN.{length}
 use Rattle.model.specs.Lists.{first_or0}
@@ -10,12 +10,13 @@ use Rattle.model.specs.Facts.{A}
 use Rattle.model.specs.Map.{put_chain}
 use Rattle.model.specs.Directory.{block_count}
 use Rattle.files.specs.Lookup.{FileAt}
-use Rattle.files.proofs.Forks.{large_block, few_in_volume, free_blocks_lem, long_image, has_chain}
+use Rattle.files.proofs.Forks.{few_in_volume, free_blocks_lem, long_image, has_chain}
 use Rattle.call_write.proofs.Grown.{grown_blocks, grown_base, grown_few, grown_fillable, grown_stored}
 use Rattle.call_write.proofs.Grown.{grown_fits, grown_most, grown_stands, grown_written}
 use Rattle.call_write.proofs.grow.grow_fork.Goals as goal
 
 -- sizes that fit: p blocks and q more of them, and bytes up to a or up to b, in a room of m
+
 count_fits : (p q : ℕ) → p + q ≤ 640 → Fits w16 p
 count_fits p q h = omega arith
 
@@ -31,26 +32,11 @@ room_fits m h = omega arith
 within : (a b m : ℕ) → max a b ≤ m → b ≤ m
 within a b m h = omega arith
 
-first_fits : (a b m : ℕ) → max a b ≤ m → m ≤ 20971520 → Fits w64 a
-first_fits a b m h k = omega arith
-
-second_fits : (a b m : ℕ) → max a b ≤ m → m ≤ 20971520 → Fits w64 b
-second_fits a b m h k = omega arith
-
 larger_fits : (r a b m : ℕ) → r ≡ max a b → max a b ≤ m → m ≤ 20971520 → Fits w32 r
 larger_fits r a b m e h k = omega arith
 
 enough : (n a b : ℕ) → n ≤ a → a ≡ b → n ≤ b
 enough n a b h e = omega arith
-
-long : (n m : ℕ) → n ≡ m → 2048 ≤ m → 1088 ≤ n
-long n m e h = omega arith
-
--- ---- the needs
-pub block_count-has-requires : goal.block_count-has-requires
-block_count-has-requires c =
-    let held : FileAt c.args.f c.args.image.now c.args.e = c.requires.fork_at.held in
-    large_block (held).readable
 
 pub overflow_cast-has : goal.overflow_cast-has
 unfolding block_count
@@ -97,24 +83,6 @@ fill_fork-requires c =
       within _ _ _ bytes_fit,
     )
 
-pub overflow_cast-g : goal.overflow_cast-g
-overflow_cast-g c =
-    let held : FileAt c.args.f c.args.image.now c.args.e = c.requires.fork_at.held in
-    let bytes_fit : max c.args.g.logical (c.args.offset + length c.args.bytes.now)
-    ≤ (c.args.g.physical / A c.args.f + c.args.new) * A c.args.f = grown_fits held c.args.fork c.args.g c.requires.fork_at.is c.args.new c.requires.offset_le_logical.2
-    c.args.offset c.args.bytes.now c.requires.offset_le_logical.0 c.requires.offset_le_logical.1 in
-    let bytes_most : (c.args.g.physical / A c.args.f + c.args.new) * A c.args.f ≤ 20971520 = grown_most held c.args.fork c.args.g c.requires.fork_at.is c.args.new c.requires.offset_le_logical.2 in
-    first_fits _ _ _ bytes_fit bytes_most
-
-pub overflow_add-offset : goal.overflow_add-offset
-overflow_add-offset c =
-    let held : FileAt c.args.f c.args.image.now c.args.e = c.requires.fork_at.held in
-    let bytes_fit : max c.args.g.logical (c.args.offset + length c.args.bytes.now)
-    ≤ (c.args.g.physical / A c.args.f + c.args.new) * A c.args.f = grown_fits held c.args.fork c.args.g c.requires.fork_at.is c.args.new c.requires.offset_le_logical.2
-    c.args.offset c.args.bytes.now c.requires.offset_le_logical.0 c.requires.offset_le_logical.1 in
-    let bytes_most : (c.args.g.physical / A c.args.f + c.args.new) * A c.args.f ≤ 20971520 = grown_most held c.args.fork c.args.g c.requires.fork_at.is c.args.new c.requires.offset_le_logical.2 in
-    second_fits _ _ _ bytes_fit bytes_most
-
 pub overflow_cast-after : goal.overflow_cast-after
 overflow_cast-after c =
     let held : FileAt c.args.f c.args.image.now c.args.e = c.requires.fork_at.held in
@@ -137,17 +105,6 @@ store_fork-requires c =
     c.args.offset c.args.bytes.now c.fill_fork.new.image (rw has_is at c.fill_fork.ensures) in
     grown_stands held c.args.fork c.args.g c.requires.fork_at.is c.args.new c.requires.offset_le_logical.2
     c.args.offset c.args.bytes.now c.requires.offset_le_logical.0 c.requires.offset_le_logical.1 c.fill_fork.new.image stored
-
-pub overflow_sub-f : goal.overflow_sub-f
-overflow_sub-f c = c.requires.offset_le_logical.2
-
-pub put_free-requires : goal.put_free-requires
-put_free-requires c =
-    let held : FileAt c.args.f c.args.image.now c.args.e = c.requires.fork_at.held in
-    long _ _ (c.store_fork.auto.image ∙ c.fill_fork.auto.image ∙ c.extend-start.auto.image) (long_image (held).readable)
-
-pub shape_of-image : goal.shape_of-image
-shape_of-image c = c.put_free.auto.image ∙ c.store_fork.auto.image ∙ c.fill_fork.auto.image ∙ c.extend-start.auto.image
 
 pub returns : goal.returns
 unfolding block_count

@@ -9,7 +9,7 @@ use Rattle.model.specs.Directory.{block_count}
 use Rattle.model.specs.Calls.{Fits, taken, taken_blocks}
 use Rattle.model.specs.Calls.Call.{write}
 use Rattle.files.proofs.Octets.{octets}
-use Rattle.files.proofs.Forks.{large_block, small_block}
+use Rattle.files.proofs.Forks.{large_block}
 use Rattle.files.proofs.Refusing.{write_changing, changed_fork_at, refused}
 use Rattle.laws.proofs.Counts.{taken_are_free}
 use Rattle.std.specs.Prelude.{Ok, Err}
@@ -17,10 +17,6 @@ use Rattle.model.proofs.Refusals.{number_some}
 use Rattle.forks.proofs.Growing.{grows_free}
 use Rattle.call_write.proofs.Written.{write_fits, write_full, write_served}
 use Rattle.call_write.proofs.write.serve_write.Goals as goal
-
-pub needed_blocks-requires : goal.needed_blocks-requires
-needed_blocks-requires c =
-    (large_block c.requires, small_block c.requires, c.in_ok-named.ensures.within)
 
 pub returns-in_err-needed : goal.returns-in_err-needed
 returns-in_err-needed c =
@@ -30,9 +26,6 @@ returns-in_err-needed c =
     (octets _ c.type_inv.bytes) (omega (arith, c.ranges.changed)) in
     let p = err_from_is_err_and c.from_residual-in_err-needed.result c.from_residual-in_err-needed.ensures.1 in
     rw (p.1, p.2) (write_full c.requires c.in_ok-named.ensures image_bytes fits (Err _) c.in_err-needed.ensures (number_some _))
-
-pub taken_blocks-taken-requires : goal.taken_blocks-taken-requires
-taken_blocks-taken-requires c = large_block c.requires
 
 -- those needed are free, and so are those taken
 pub grow_fork-requires : goal.grow_fork-requires

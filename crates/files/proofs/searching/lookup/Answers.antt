@@ -2,16 +2,8 @@
 use mathlib.Core.Path.{◌≡◌, sym, ◌∙◌}
 use mathlib.Core.Bool.{false}
 use Rattle.model.specs.Calls.{bad_name}
-use Rattle.files.proofs.Lookups.{missed_title, some_block, first_passes, found_at, found_none}
+use Rattle.files.proofs.Lookups.{first_passes, found_at, found_none}
 use Rattle.files.proofs.searching.lookup.Goals as goal
-
-pub returns-then-bad_name : goal.returns-then-bad_name
-returns-then-bad_name c =
-    let a = c.args in
-    missed_title a.image.now a.name.now (sym c.bad_name.ensures ∙ c.if-bad_name.true)
-
-pub first_entry-requires : goal.first_entry-requires
-first_entry-requires c = some_block c.requires
 
 pub locate-requires : goal.locate-requires
 locate-requires c = first_passes c.requires c.first_entry.ensures
