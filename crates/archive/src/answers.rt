@@ -1,5 +1,5 @@
-// The answers as C has them, structs and no enums: each begins with its number, 0 or that of the refusal, and then all else is zero, but for the count beside
-// quick find's 13.
+// The answers as C has them, structs and no enums: each begins with its number, 0 or that of the refusal, and then all else is zero, but
+// for the count beside quick find's 13.
 ghost use Rattle.std.specs.Prelude.{◌≡◌};
 ghost use Rattle.files.specs.Told.{told_check as check_tells, told_entry as entry_tells, told_find as find_tells, told_block as block_tells, told_quick_find as quick_find_tells};
 ghost use Rattle.archive.specs.Told.{told_check, told_entry, told_find, told_block, told_quick_find, ReadAs};

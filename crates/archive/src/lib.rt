@@ -17,7 +17,8 @@ pub use wrapped_files::{
     mfs_wrapped_delete, mfs_wrapped_entry, mfs_wrapped_find, mfs_wrapped_read, mfs_wrapped_write,
 };
 
-// The fork of a number: 0 is the data fork, every other number the resource fork. No number is refused, as C's interface says.
+// The fork of a number: 0 is the data fork, every other number the resource fork. No number is refused, as C's interface says; no `From`,
+// since neither type is of this crate.
 fn fork_numbered(number: u8) -> Fork
     ensures { result ≡ fork_numbered number }
 {

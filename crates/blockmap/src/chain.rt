@@ -11,6 +11,7 @@ use model::{AllocationBlock, ForkFacts, block_count};
 
 // Whether a chain of exactly k blocks runs from s, none of which is marked. Where it does, each of its blocks is marked.
 // s is a map value, or a fork's start as stored, and may be no block's number (0, 1 or bad): so it is a plain number.
+// A mark is a byte: `fresh` and `marked`, by which this is stated, speak of numbers.
 // Each call but the last marks a block that had no mark, so there are at most n + 1 of them, whatever k is.
 pub fn walk(entries: &[u16; 642], n: u16, s: u16, k: u16, marks: &mut [u8; 642]) -> bool
     requires { n ≤ 640 }

@@ -1,6 +1,6 @@
 // The allocation block map: its 12-bit entries read, stored and sorted, checks 5, 9 and 10 over all of them, chains walked and
-// marked, which is check 8 of a fork, blocks allocated and freed. The decoded entries and N go as two parameters: a type of both
-// would ask an invariant of whoever calls `decode`, `claim_fork` or the checks, which docs/ name as they are.
+// marked, which is check 8 of a fork, blocks allocated and freed. The image and N, and the decoded entries and N,
+// go as two parameters: a type of both would ask an invariant of whoever calls these functions, which the pages in docs/ name as they are.
 #![tactic(auto)]
 
 mod allocate;

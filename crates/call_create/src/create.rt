@@ -7,7 +7,7 @@ use directory::entry_size;
 use files::{bad_name, first_entry, is_locked, lookup, too_long};
 use model::{Refusal, VolumeFacts};
 
-// On an accepted image, whose facts are f.
+// On an accepted image, whose facts are f. Name, Finder bytes and dates are four parameters, as `Call.create` and C have them.
 pub fn serve_create(
     image: &mut [u8],
     f: VolumeFacts,

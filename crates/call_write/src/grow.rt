@@ -11,6 +11,7 @@ use forks::fill_fork;
 use model::{AllocationBlock, Fork, ForkFacts, VolumeFacts, block_count};
 
 // Joins so many new blocks to the fork g, stores the bytes from the offset on, then the fork's fields and the free count.
+// Entry, fork and its facts are three parameters: `ForkAt` and `Written` speak of each.
 pub fn grow_fork(
     image: &mut [u8],
     f: VolumeFacts,

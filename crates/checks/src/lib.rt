@@ -13,7 +13,7 @@ pub use limits::{bad_length, judge_facts};
 pub use verdict::judge;
 
 // What is compared of two entries. It is an enum and no closure: `same_by` and `home_by`, by which the table is stated, go by it.
-#[derive(Clone, Copy)]
+#[derive(Clone, Copy, Debug, PartialEq, Eq)]
 pub enum Field {
     Number,
     Name,

@@ -1,6 +1,7 @@
 // The search for entries with the same file number or equal names, by a hash table with open addressing. An entry stands in its
 // home slot, which its number or its name gives, or behind it with no free slot between. So it is enough to compare an entry
 // with those from its home slot to the next free one. It is a table in fixed memory and no HashMap, since the library has no heap.
+// A slot is a number with 0 for none: an Option of one would take eight bytes, and the table is cleared for each comparison.
 ghost use Rattle.std.specs.Prelude.{◌≡◌, ◌-◌, ◌≤◌};
 ghost use Rattle.directory.specs.Cursor.{rest_of, bytes_at, Stands, Passes};
 ghost use Rattle.directory.specs.Folding.{folded, Folds};

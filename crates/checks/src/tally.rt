@@ -27,7 +27,7 @@ pub fn count_entries(image: &[u8], from: Cursor, next: u32) -> Result<Tally, Bad
     requires { CursorFits image.now from }
     ensures { Tallied next (rest_of image.now from) result }
 {
-    // The entries may end in a bad one, so they are no iterator's, and the count goes with the test.
+    // The entries may end in a bad one: an iterator of Results would serve this loop alone, and be longer.
     let mut c = from;
     let mut count: usize = 0;
     let mut numbered = true;

@@ -4,7 +4,8 @@ ghost use Rattle.directory.specs.Cursor.{Passes};
 
 use crate::{Cursor, EntryAt};
 
-// The entries from a cursor on.
+// The entries from a cursor on. It is used up by one pass, so a function that makes more, or hands the cursor on, takes image and cursor
+// with `Passes`.
 #[derive(Drop)]
 pub struct Entries<'a> {
     image: &'a [u8],

@@ -34,7 +34,8 @@ pub struct Cursor {
     pub left: usize,
 }
 
-// An entry that was read.
+// An entry that was read. The image is a parameter beside it, with `Stands`: a struct of both could not stand while a call stores into
+// the image.
 #[derive(Clone, Copy)]
 pub struct EntryAt {
     // The byte of the image where it starts.

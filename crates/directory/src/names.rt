@@ -1,5 +1,6 @@
 // Names compare without case: byte by byte, bytes that differ as the lent table folds them. The last byte comes first: names of weeks begin
-// alike. The table is lent with `Folds` and no type of its own: `same_name` and `has_name`, which docs/ name, ask for it so.
+// alike. The table is lent with `Folds` and has no type of its own: `same_name` and `has_name`, which docs/ name, ask for it so, and with
+// them the functions of `checks` that hand it on.
 ghost use Rattle.std.specs.Prelude.{◌≡◌};
 ghost use Rattle.model.specs.Directory.{same_byte, same_name};
 ghost use Rattle.directory.specs.Folding.{Folds};

@@ -1,5 +1,6 @@
 // From a name to its entry: refusals 12 and 13, for a call that changes the file 11 and 15 too, and 16 for one that changes a fork.
-// An image and its facts go as two parameters with `Readable`: a struct of both could not stand while a call stores into the image.
+// An image and its facts go as two parameters with `Readable`: a struct of both could not stand while a call stores into the image, and
+// the pages in docs/ name these functions as they are.
 ghost use Rattle.std.specs.Prelude.{◌≤◌};
 ghost use Rattle.model.specs.Facts.{dir_start, dir_length};
 ghost use Rattle.directory.specs.Cursor.{Begins};

@@ -16,7 +16,8 @@ fn byte_in(b: AllocationBlock, start: LogicalBlock, size: u32, within: usize) ->
     b.logical(start, size).byte() + within
 }
 
-// Copies count bytes of the fork from the offset on into the buffer. Of what `chunks_mut` lends a proof would know nothing after.
+// Copies count bytes of the fork from the offset on into the buffer. Of what `chunks_mut` lends a proof would know nothing after, and
+// a `for` by steps of A would count what `done` says.
 fn copy_blocks(
     image: &[u8],
     start: LogicalBlock,

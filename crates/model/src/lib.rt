@@ -19,7 +19,7 @@ pub use fork_facts::block_count;
 pub use numbers::{be16_at, be32_at};
 pub use refusal::{Refusal, done_number};
 
-// The number of an allocation block: 2 to N + 1.
+// The number of an allocation block: 2 to N + 1. No invariant says so: a fork's start is one too, and 0 where the fork has no block.
 #[repr(C)]
 #[derive(Clone, Copy, Debug, PartialEq, Eq)]
 pub struct AllocationBlock(pub u16);

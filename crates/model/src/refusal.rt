@@ -31,7 +31,7 @@ pub enum Refusal {
 }
 
 impl Refusal {
-    // Its number.
+    // Its number. A method and no `From`, since nothing asks for a conversion of any type.
     pub fn number(self) -> u8
         ensures { result ≡ number_of self }
     {
@@ -39,7 +39,7 @@ impl Refusal {
     }
 }
 
-// The number that a call gives back: 0 is success.
+// The number that a call gives back: 0 is success. No `From`, since Result is no type of this crate.
 pub fn done_number(done: Result<(), Refusal>) -> u8
     ensures { result ≡ done_number done }
 {

@@ -24,7 +24,7 @@ pub struct Record<'a, R, W> {
 }
 
 impl<R: Read, W: Write> Record<'_, R, W> {
-    // Carries out the call of a tag and prints its line.
+    // Carries out the call of a tag and prints its line. The tags are the bytes that docs/REPLAY.md lists.
     pub fn call(&mut self, tag: u8, disk: &impl Disk) -> Result<(), Stop> {
         match tag {
             b'C' => self.check(disk),

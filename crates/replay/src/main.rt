@@ -17,14 +17,15 @@ use std::io::{Read, Write};
 // The most bytes of an image, and of the buffer that one is wrapped into.
 pub const MOST: usize = 419_328;
 
-// What the image is: a volume as it stands, or a wrapped file.
-#[derive(Clone, Copy)]
+// What the image is: a volume as it stands, or a wrapped file. The type that stands for it, `Bare` or `Wrapped`, is chosen in `carry_out`
+// alone.
+#[derive(Clone, Copy, Debug, PartialEq, Eq)]
 enum Form {
     Bare,
     Wrapped,
 }
 
-// The image is the space's first bytes.
+// The image is the space's first bytes: fixed memory, as everywhere here.
 #[derive(Drop)]
 struct Image {
     space: [u8; MOST],

@@ -30,8 +30,8 @@ pub struct Outcome {
     pub count: usize,
 }
 
-// Each call by its name.
-#[derive(Clone, Copy)]
+// Each call by its name. `call_of`, and so `Happens`, go by it.
+#[derive(Clone, Copy, Debug, PartialEq, Eq)]
 pub enum Wanted {
     Check,
     Entry,
