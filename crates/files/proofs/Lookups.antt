@@ -17,10 +17,13 @@ use Rattle.directory.proofs.Whole.{begins_directory, sound_passes}
 use Rattle.entries.proofs.Located.{begins_comes}
 use Rattle.model.specs.declared.VolumeFacts.{VolumeFacts}
 use Rattle.directory.specs.declared.Cursor.{Cursor}
-use Rattle.directory.specs.declared.EntryAt.{EntryAt}
 use Rattle.directory.specs.declared.Found.{Found}
 use Rattle.std.specs.Prelude.{Option, Some, None}
-use Rattle.files.specs.Lookup.{Readable, NamedEntry, Missed}
+use Rattle.std.specs.Prelude.{Result}
+use Rattle.std.specs.Option.{ok_or}
+use Rattle.model.specs.declared.refusal.Refusal.{Refusal}
+use Rattle.model.specs.declared.refusal.Refusal.TheVariants.{NotFound}
+use Rattle.files.specs.Lookup.{Readable, Missed, Names}
 
 -- ---- names
 
@@ -53,17 +56,20 @@ module _ {f : VolumeFacts} {image : List ℕ} (r : Readable f image) where
     pub first_rest : rest_of image c ≡ directory image
     first_rest = begins_directory image c begins
 
-    module _ {name : List ℕ} {s : Option Found} (h : Finds image name (rest_of image c) s) (l : Located image c s) (good : bad_name name ≡ false) where
-      pub found_at : {place : ℕ} {e : EntryAt} → s ≡ Some (record { place = place; entry = e }) → NamedEntry image name place e
-      found_at p =
-          let f' = facts_of image in
+    module _ (name : List ℕ) (good : bad_name name ≡ false) where
+      found_or : (s : Option Found) → Finds image name (rest_of image c) s → Located image c s → Names image name (ok_or s NotFound)
+      found_or None h l =
+          let none : any (named name) (directory image) ≡ false = rw first_rest at h in
+          record { fires = rw (good, none); some = λ z. omega arith }
+      found_or (Some f) h l =
+          let v = facts_of image in
           record {
             title = good;
-            there = rw first_rest at (rw p at h);
-            lies = (rw p at l) (512 * (dir_start f').0) (dir_length f') (begins_comes image (dir_start f') (dir_length f') c begins);
+            there = rw first_rest at h;
+            lies = l (512 * (dir_start v).0) (dir_length v) (begins_comes image (dir_start v) (dir_length v) c begins);
           }
 
-      pub found_none : s ≡ None → Missed image name 13
-      found_none p =
-          let none : any (named name) (directory image) ≡ false = rw first_rest at (rw p at h) in
-          record { fires = rw (good, none); some = λ z. omega arith }
+      -- the entry that was found, or 13
+      pub names_or : (s : Option Found) → Finds image name (rest_of image c) s → Located image c s
+          → (r : Result Found Refusal) → r ≡ ok_or s NotFound → Names image name r
+      names_or s h l r e = rw e (found_or s h l)

@@ -29,10 +29,7 @@ pub fn lookup(image: &[u8], f: VolumeFacts, name: &[u8]) -> Result<Found, Refusa
     if bad_name(name) {
         return Err(Refusal::BadName);
     }
-    match directory::locate(image, first_entry(f), name) {
-        Some(found) => Ok(found),
-        None => Err(Refusal::NotFound),
-    }
+    directory::locate(image, first_entry(f), name).ok_or(Refusal::NotFound)
 }
 
 // The entry of the name for a call that changes the file.
