@@ -5,7 +5,7 @@ ghost use Rattle.model.specs.Directory.{number_in, fork_place, fork_of, fork_in,
 ghost use Rattle.directory.specs.Cursor.{bytes_at, Stands};
 
 use crate::EntryAt;
-use model::{AllocationBlock, DirectoryEntry, Fork, ForkFacts, be16_at, be32_at};
+use model::{AllocationBlock, DirectoryEntry, Fork, ForkFacts, array_at, be16_at, be32_at};
 
 // The file number.
 pub fn number_of(image: &[u8], e: EntryAt) -> u32
@@ -44,15 +44,6 @@ fn fork_at(image: &[u8], at: usize) -> ForkFacts
     }
 }
 
-fn finder_at(image: &[u8], at: usize) -> [u8; 16]
-    requires { at + 16 ≤ length image.now }
-    ensures { result ≡ part at 16 image.now }
-{
-    let mut finder = [0; 16];
-    finder.copy_from_slice(&image[at..at + 16]);
-    finder
-}
-
 // A name as 255 bytes, zero behind it.
 fn name_at(image: &[u8], at: usize, count: usize) -> [u8; 255]
     requires { (at + count ≤ length image.now) × (count ≤ 255) }
@@ -74,7 +65,7 @@ pub fn read_entry(image: &[u8], e: EntryAt) -> DirectoryEntry
     DirectoryEntry {
         flags: image[start + EntryAt::FLAGS_AT],
         version: image[start + EntryAt::VERSION_AT],
-        finder: finder_at(image, start + EntryAt::FINDER_AT),
+        finder: array_at(image, start + EntryAt::FINDER_AT),
         number: number_of(image, e),
         data: read_fork(image, e, Fork::Data),
         resource: read_fork(image, e, Fork::Resource),

@@ -9,6 +9,7 @@ ghost use Rattle.directory.specs.Cursor.{bytes_at, Stands};
 use crate::insert::put_bytes;
 use crate::numbers::put32_at;
 use directory::{EntryAt, entry_size};
+use model::array_at;
 
 // Stores date and name in the entry at a byte of the image.
 pub fn put_date_and_name(image: &mut [u8], at: usize, name: &[u8], changed: u32)
@@ -25,9 +26,7 @@ pub fn kept_head(image: &[u8], e: EntryAt) -> [u8; 46]
     requires { Stands image.now e }
     ensures { result ≡ part e.start 46 image.now }
 {
-    let mut head = [0; EntryAt::CHANGED_AT];
-    head.copy_from_slice(&image[e.start..e.start + EntryAt::CHANGED_AT]);
-    head
+    array_at(image, e.start)
 }
 
 // Gives the entry another date and a name of the same padded size, where it stands. A pad byte is 0 afterwards.

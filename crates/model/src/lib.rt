@@ -14,7 +14,7 @@ mod numbers;
 mod refusal;
 mod volume_facts;
 
-pub use copying::copy_part;
+pub use copying::{array_at, copy_part};
 pub use fork_facts::block_count;
 pub use numbers::{be16_at, be32_at};
 pub use refusal::{Refusal, done_number};

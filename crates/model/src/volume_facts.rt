@@ -1,20 +1,10 @@
 // The volume information: where its fields stand, what they may hold, and how it is read.
-ghost use Rattle.std.specs.Prelude.{◌≡◌, ◌+◌, ◌≤◌, length};
-ghost use Rattle.model.specs.Bytes.{part};
+ghost use Rattle.std.specs.Prelude.{◌≡◌, ◌≤◌, length};
 ghost use Rattle.model.specs.Facts.{facts_of};
 
+use crate::copying::array_at;
 use crate::numbers::{be16_at, be32_at};
 use crate::{LogicalBlock, VolumeFacts};
-
-// The 27 bytes behind a volume name's length byte.
-fn name_at(s: &[u8], at: usize) -> [u8; 27]
-    requires { at + 27 ≤ length s.now }
-    ensures { result ≡ part at 27 s.now }
-{
-    let mut name = [0; VolumeFacts::MOST_NAME];
-    name.copy_from_slice(&s[at..at + VolumeFacts::MOST_NAME]);
-    name
-}
 
 impl VolumeFacts {
     // The volume information is 64 bytes at byte 1024 of the image.
@@ -98,7 +88,7 @@ impl VolumeFacts {
             next_number: be32_at(v, Self::NEXT_NUMBER_AT),
             free_blocks: be16_at(v, Self::FREE_BLOCKS_AT),
             name_length: v[Self::NAME_LENGTH_AT],
-            name: name_at(v, Self::NAME_AT),
+            name: array_at(v, Self::NAME_AT),
         }
     }
 }

@@ -6,7 +6,7 @@ use Rattle.directory.proofs.fields.read_entry.Goals as goal
 pub returns : goal.returns
 returns c =
     entry_are c.args.image.now c.args.e c.requires _ refl refl
-    c.finder_at.ensures
+    c.array_at.ensures
     c.number_of.ensures
     c.read_fork.ensures
     c.read_fork-2.ensures

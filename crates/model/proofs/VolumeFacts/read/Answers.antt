@@ -98,10 +98,10 @@ bounds-v-36 c =
     let within : (k : ℕ) → T (ltb k 64) → k < length (take (length c.args.image.now - 1024) (drop 1024 c.args.image.now)) = λ k t. reaches c.args.image.now k c.requires (lit< t) in
     within _ tt
 
-pub name_at-requires : goal.name_at-requires
-name_at-requires c =
+pub array_at-requires : goal.array_at-requires
+array_at-requires c =
     let within : (k : ℕ) → T (ltb k 64) → k < length (take (length c.args.image.now - 1024) (drop 1024 c.args.image.now)) = λ k t. reaches c.args.image.now k c.requires (lit< t) in
-    within _ tt
+    (lit< tt, within _ tt)
 
 pub returns : goal.returns
 unfolding facts_of
@@ -121,5 +121,5 @@ returns c =
     c.be32_at-5.ensures
     c.be16_at-8.ensures
     refl
-    c.name_at.ensures
+    c.array_at.ensures
     ∙ ap facts_in (part_to_end 1024 c.args.image.now)
