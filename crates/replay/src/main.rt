@@ -25,7 +25,7 @@ enum Form {
     Wrapped,
 }
 
-// The image is the space's first bytes: fixed memory, as everywhere here.
+// The image is the space's first bytes. The memory is fixed: a Vec could fail to grow, and what this program prints has no word for that.
 #[derive(Drop)]
 struct Image {
     space: [u8; MOST],

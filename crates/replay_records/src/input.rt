@@ -96,6 +96,7 @@ pub fn name<'a, R: Read>(reader: &mut R, space: &'a mut [u8]) -> Result<&'a [u8]
     Ok(read)
 }
 
+// No `TryFrom`, since neither type is of this crate.
 fn fork<R: Read>(reader: &mut R) -> Result<Fork, Stop> {
     match byte(reader)? {
         0 => Ok(Fork::Data),
