@@ -132,7 +132,9 @@ fn empty() -> [u32; SLOTS]
     [0; SLOTS]
 }
 
-// Whether the entries differ in their file numbers, or in their names.
+// Whether the entries differ in their file numbers, or in their names. Not inlined, so that the table is on the stack only of a call that
+// needs one: a volume of a few files, and one refused before, is checked on a small stack.
+#[inline(never)]
 pub fn compare_by(image: &[u8], from: Cursor, field: Field, fold: &[u8; 256]) -> Result<(), NoSlot>
     requires passes { Passes image.now from }
     requires folds { Folds fold.now }
