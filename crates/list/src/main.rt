@@ -9,18 +9,24 @@ use text::streams;
 // The most bytes of an image: 127 blocks.
 const MOST: usize = 65_024;
 
+// The bytes of a name that are shown and written at once: all of them. To write each by itself takes ten times as long.
+const AT_ONCE: usize = 256;
+
 // A name as it is printed: each byte that isn't a printable character of ASCII as a question mark.
 #[derive(Clone, Copy)]
 struct Shown<'a>(&'a [u8]);
 
 impl fmt::Display for Shown<'_> {
     fn fmt<W: fmt::Write>(&self, f: &mut fmt::Formatter<W>) -> fmt::Result {
-        for b in self.0 {
-            let shown = match b {
-                b' '..=b'~' => char::from(*b),
-                _ => '?',
-            };
-            write!(f, "{shown}")?;
+        for part in self.0.chunks(AT_ONCE) {
+            let mut shown = [b'?'; AT_ONCE];
+            for (to, b) in shown.iter_mut().zip(part) {
+                if matches!(b, b' '..=b'~') {
+                    *to = *b;
+                }
+            }
+            let whole = str::from_utf8(text::first(&shown, part.len())).map_err(|_| fmt::Error)?;
+            f.write_str(whole)?;
         }
         Ok(())
     }

@@ -59,6 +59,7 @@ pub trait Disk {
 }
 
 // A volume as it stands.
+#[derive(Clone, Copy)]
 pub struct Bare;
 
 impl Disk for Bare {
@@ -135,6 +136,7 @@ impl Disk for Bare {
 }
 
 // A wrapped file.
+#[derive(Clone, Copy)]
 pub struct Wrapped;
 
 impl Disk for Wrapped {

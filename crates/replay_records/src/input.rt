@@ -5,6 +5,7 @@ use model::Fork;
 use std::error::Error;
 use std::fmt;
 use std::io::Read;
+use text::streams;
 
 // The most bytes of a name.
 pub const MOST_NAME: usize = 1_024;
@@ -41,7 +42,10 @@ pub fn next_tag<R: Read>(reader: &mut R) -> Result<Option<u8>, Stop> {
 
 // Within a record, a read that fails is taken for the input's end.
 fn fill<R: Read>(reader: &mut R, space: &mut [u8]) -> Result<(), Stop> {
-    reader.read_exact(space).map_err(|_| Stop::BadRecord)
+    if streams::read_full(reader, space) < space.len() {
+        return Err(Stop::BadRecord);
+    }
+    Ok(())
 }
 
 pub fn array<const N: usize, R: Read>(reader: &mut R) -> Result<[u8; N], Stop> {

@@ -1,4 +1,6 @@
 // What stands in the line of a call: words parted by one space.
+ghost use Rattle.std.specs.Prelude.{◌<◌};
+
 use model::{DirectoryEntry, ForkFacts, VolumeFacts};
 use std::fmt;
 
@@ -9,17 +11,32 @@ pub fn sum(bytes: &[u8]) -> u32 {
     })
 }
 
+// The bytes whose digits are written at once. To write those of each by themselves takes many times as long.
+const AT_ONCE: usize = 64;
+
 // Bytes in hex, or `-` where there are none.
 #[derive(Clone, Copy)]
 struct Hex<'a>(&'a [u8]);
 
+// A digit below 16.
+fn digit(n: u8) -> u8
+    requires { n < 16 }
+{
+    if n < 10 { b'0' + n } else { b'a' + (n - 10) }
+}
+
 impl fmt::Display for Hex<'_> {
     fn fmt<W: fmt::Write>(&self, f: &mut fmt::Formatter<W>) -> fmt::Result {
         if self.0.is_empty() {
-            return write!(f, "-");
+            return f.write_str("-");
         }
-        for b in self.0 {
-            write!(f, "{b:02x}")?;
+        for part in self.0.chunks(AT_ONCE) {
+            let mut pairs = [[0u8; 2]; AT_ONCE];
+            for (pair, b) in pairs.iter_mut().zip(part) {
+                *pair = [digit(b / 16), digit(b % 16)];
+            }
+            let digits = pairs.get(..part.len()).unwrap_or(&pairs).as_flattened();
+            f.write_str(str::from_utf8(digits).map_err(|_| fmt::Error)?)?;
         }
         Ok(())
     }

@@ -9,7 +9,7 @@ use std::fmt::Display;
 use std::io::{Cursor, Write};
 
 // The most bytes of a line, its end among them.
-const ROOM: usize = 1_024;
+pub const ROOM: usize = 1_024;
 
 // Copies of a byte. Only their number is known, so that a proof never looks at each of them.
 pub fn filled<const N: usize>(b: u8) -> [u8; N]
